@@ -1,0 +1,16 @@
+pub mod Statements
+pub mod Layers
+pub mod Tabling
+pub mod Runs
+pub mod Lowest
+pub mod Fronts
+pub mod Items
+pub mod Verdicts
+pub mod Steps
+pub mod Passing
+pub mod Faults
+pub mod Grids
+pub mod Midway
+pub mod Grammar
+pub mod Written
+pub mod Accepting

@@ -1,0 +1,4 @@
+pub mod Rows
+pub mod Lookups
+pub mod Places
+pub mod Properness

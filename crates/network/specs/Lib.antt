@@ -1,0 +1,5 @@
+pub mod Bounds
+pub mod Refusals
+pub mod Points
+pub mod Tables
+pub mod Contents

@@ -1,0 +1,10 @@
+pub mod Members
+pub mod Numbering
+pub mod Reaching
+pub mod Order
+pub mod Clauses
+pub mod Marking
+pub mod Families
+pub mod Markings
+pub mod Encoded
+pub mod Solutions

@@ -1,0 +1,10 @@
+pub mod Lists
+pub mod Numbering
+pub mod Literals
+pub mod Network
+pub mod Encodings
+pub mod Faithful
+pub mod Reached
+pub mod Marks
+pub mod Families
+pub mod Laws
