@@ -1,0 +1,4 @@
+pub mod Stored
+pub mod Refusals
+pub mod Storing
+pub mod Halves
