@@ -11,7 +11,7 @@ use std::alloc::AllocError;
 use std::alloc::Global;
 
 // The literal that a value is in.
-pub(crate) fn is_in(number: usize) -> u32
+pub fn is_in(number: usize) -> u32
     requires { ⌜ number < 1024 ⌝ }
     ensures { λ r. ⌜ r ≡ isIn number ⌝ }
 {
@@ -19,7 +19,7 @@ pub(crate) fn is_in(number: usize) -> u32
 }
 
 // The literal that a value is out.
-pub(crate) fn is_out(number: usize) -> u32
+pub fn is_out(number: usize) -> u32
     requires { ⌜ number < 1024 ⌝ }
     ensures { λ r. ⌜ r ≡ isOut number ⌝ }
 {

@@ -19,7 +19,7 @@ use std::alloc::Global;
 use theory::Side;
 
 // The point at one end of a table.
-fn near_point(table: &Table, side: Side) -> usize
+pub fn near_point(table: &Table, side: Side) -> usize
     ensures { λ r. ⌜ r ≡ near side (tableOf (now (table .entry))) ⌝ }
 {
     match side {
@@ -29,7 +29,7 @@ fn near_point(table: &Table, side: Side) -> usize
 }
 
 // The point at the other end.
-fn far_point(table: &Table, side: Side) -> usize
+pub fn far_point(table: &Table, side: Side) -> usize
     ensures { λ r. ⌜ r ≡ far side (tableOf (now (table .entry))) ⌝ }
 {
     match side {
@@ -39,7 +39,7 @@ fn far_point(table: &Table, side: Side) -> usize
 }
 
 // Whether the value j of the other end is a partner of the value i of this end.
-fn is_partner(table: &Table, side: Side, i: usize, j: usize) -> bool
+pub fn is_partner(table: &Table, side: Side, i: usize, j: usize) -> bool
     ensures { λ r. ⌜ r ≡ partner side (tableOf (now (table .entry))) i j ⌝ }
 {
     match side {
@@ -89,7 +89,7 @@ pub(crate) fn half(
 }
 
 // How many partners a value has.
-fn partners(points: &PointList, table: &Table, side: Side, i: usize) -> usize
+pub fn partners(points: &PointList, table: &Table, side: Side, i: usize) -> usize
     ensures value { λ r. ⌜ r + 1 ≡ length (supportClause (countsOf (now (points .entry))) side (tableOf (now (table .entry))) i) ⌝ }
     ensures bound { λ r. ⌜ r ≤ mostValues ⌝ }
 {
@@ -126,7 +126,7 @@ pub(crate) fn score_sum(points: &PointList, table: &Table, side: Side) -> usize
 }
 
 // The end whose half has the higher sum: the lower end on equal sums.
-pub(crate) fn better_side(points: &PointList, table: &Table) -> Side
+pub fn better_side(points: &PointList, table: &Table) -> Side
     ensures { λ r. ⌜ r ≡ betterSide (countsOf (now (points .entry))) (tableOf (now (table .entry))) ⌝ }
 {
     if score_sum(points, table, Side::Lower) < score_sum(points, table, Side::Higher) {

@@ -1,8 +1,8 @@
 // The clauses of a network, in the three encodings.
-mod clause;
+pub mod clause;
 mod encoder;
 mod exactly_one;
-mod halves;
+pub mod halves;
 mod pairs;
 
 pub use encoder::encode;

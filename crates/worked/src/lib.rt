@@ -1,6 +1,7 @@
 // The worked example, one tip and one cable, as tests.
 #[cfg(test)]
 mod tests {
+    use books::WordsRefusal;
     use netfile::ReadError;
     use network::Network;
     use std::test::*;
@@ -77,5 +78,34 @@ mod tests {
         check_eq(network.points().place(5), None)?;
         let clauses = encodings::encode(rt.alloc(), &network, Encoding::MinimalSupport)?;
         check_eq(clauses.len(), 9)
+    }
+
+    // How many words writing takes, or the number that is needed where there are too few.
+    fn words(network: &Network, encoding: Encoding, out: &mut [u32]) -> Result<usize, usize> {
+        match writers::write(network, encoding, out) {
+            Ok(n) => Ok(n),
+            Err(WordsRefusal::TooFewWords(n)) => Err(n),
+            Err(WordsRefusal::NotStored) => Err(0),
+        }
+    }
+
+    #[test]
+    fn words_of_the_encodings(rt: LibcRuntime) -> Result<(), Fail> {
+        let mut file = POINTS.to_vec(rt.alloc())?;
+        file.extend_from_slice(&TABLE)?;
+        let mut network = Network::start(rt.alloc())?;
+        check(netfile::load(rt.alloc(), &mut network, &file).is_ok())?;
+        let mut few = [7; 33];
+        check_eq(words(&network, Encoding::Support, &mut few), Err(34))?;
+        check_eq(few, [7; 33])?;
+        let mut out = [7; 36];
+        check_eq(words(&network, Encoding::Support, &mut out), Ok(34))?;
+        check_eq(
+            out[0..13].to_vec(rt.alloc())?,
+            [11, 15, 17, 19, 21, 23, 25, 27, 29, 30, 32, 34, 0].to_vec(rt.alloc())?,
+        )?;
+        check_eq(out[34], 7)?;
+        check_eq(words(&network, Encoding::Direct, &mut out), Ok(32))?;
+        check_eq(words(&network, Encoding::MinimalSupport, &mut out), Ok(28))
     }
 }

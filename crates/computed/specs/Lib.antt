@@ -1,0 +1,4 @@
+pub mod Found
+pub mod Ids
+pub mod Rows
+pub mod Sizes
