@@ -14,8 +14,8 @@ import re
 import sys
 
 NAME = r"[^\s(){}\[\],;.:λ∷×→≡<>|«»\"]+"
-SIGNATURE = re.compile(r"^(\s*)((?:(?:abbrev|unfoldable|pub) )*)(" + NAME + r") : (?!goal\.)")
-FIELD = re.compile(r"^  pub (" + NAME + r") : ")
+SIGNATURE = re.compile(r"^(\s*)((?:(?:abbrev|unfoldable|pub) )*)(" + NAME + r") :(?: (?!goal\.)|$)")
+RECORD = re.compile(r"^(?:pub )?record .* where$")
 GENERATED = re.compile(r"^(?:(?:abbrev|pub) )*(" + NAME + r") : goal\.")
 TOKEN = re.compile(r"[A-Za-z0-9_'\-]+")
 CAMEL = re.compile(r"(?<=[a-z0-9])(?=[A-Z])")
@@ -44,10 +44,12 @@ def snake(name):
 
 
 def declared():
-    """Own names to change, by whether a specs/ folder declares them; names that Rattle generates."""
-    specs, lemmas, generated, kept = set(), set(), set(), set()
+    """Own names to change, by whether a specs/ folder declares them; fields among them; names that Rattle generates; names that stay."""
+    specs, lemmas, fields, generated, kept = set(), set(), set(), set(), set()
     for path in files(".antt"):
+        record = False
         for line in read(path).splitlines():
+            record = bool(RECORD.match(line)) or (record and line.startswith(" "))
             found = GENERATED.match(line)
             if found:
                 generated.add(found.group(1))
@@ -55,21 +57,23 @@ def declared():
             found = SIGNATURE.match(line)
             if found and fits(found.group(3)):
                 (specs if "/specs/" in path else lemmas).add(found.group(3))
+                if record:
+                    fields.add(found.group(3))
             elif found:
                 kept.add((path.split(os.sep)[1], found.group(3)))
-    return specs, lemmas, generated, kept
+    return specs, lemmas, fields, generated, kept
 
 
 def renamings():
-    specs, lemmas, generated, kept = declared()
+    specs, lemmas, fields, generated, kept = declared()
     taken = {name for _, name in kept}
     new = {}
     for name in sorted(specs):
         new[name] = snake(name)
-    for name in sorted(lemmas - specs):
+    for name in sorted(lemmas - specs, key=lambda n: ("-" in n, n)):
         to = snake(name)
         new[name] = to + "_lem" if to in new.values() or to in taken else to
-    return new, generated
+    return new, fields, generated
 
 
 def code(path, line):
@@ -79,24 +83,23 @@ def code(path, line):
     return (line, "") if at < 0 else (line[:at], line[at:])
 
 
-def turn(path, text, new, generated):
+def turn(path, text, new, fields, generated):
     out = []
     answers = path.endswith(("Answers.antt", "Invariants.antt"))
     for line in text.split("\n"):
         head, tail = code(path, line)
         pieces = head.split('"')
         for k in range(0, len(pieces), 2):
-            pieces[k] = swap(pieces[k], new, generated if answers else ())
+            pieces[k] = swap(pieces[k], new, fields, generated if answers else ())
         out.append('"'.join(pieces) + tail)
     return "\n".join(out)
 
 
-def swap(piece, new, generated):
+def swap(piece, new, fields, generated):
     def one(found):
         word, before = found.group(0), piece[: found.start()]
-        if word not in new or ("-" in word and re.search(r"[\w\])]\.$", before)):
-            return word
-        if word in generated:
+        dotted = re.search(r"[\w\])]\.$", before)
+        if word not in new or word in generated or (dotted and "-" in word and word not in fields):
             return word
         return new[word]
 
@@ -104,14 +107,14 @@ def swap(piece, new, generated):
 
 
 def main():
-    new, generated = renamings()
+    new, fields, generated = renamings()
     if "--list" in sys.argv:
         for name, to in sorted(new.items()):
             print(name, to, "GENERATED TOO" if name in generated else "")
         return
     for path in [*files(".antt"), *files(".rt")]:
         text = read(path)
-        turned = turn(path, text, new, generated)
+        turned = turn(path, text, new, fields, generated)
         if turned != text:
             with open(path, "w", encoding="utf-8") as f:
                 f.write(turned)

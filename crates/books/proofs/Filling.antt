@@ -24,10 +24,10 @@ row_front [] (suc i) = omega arith
 row_front (c ∷ cs) (suc i) = omega (arith, row_front cs i, length-append c (row (take i cs)), length-append c (row cs))
 
 -- a part written behind a front leaves the front, and the words behind the part
-pub part-more :
+pub part_more :
     (front part ws mid us : List ℕ) (p : ℕ) → length front ≡ p → mid ≡ front ++ drop p ws → us ≡ (take p mid ++ part) ++ drop (p + length part) mid →
     us ≡ (front ++ part) ++ drop (p + length part) ws
-part-more front part ws mid us p l m e =
+part_more front part ws mid us p l m e =
     let past : drop (p + length part) mid ≡ drop (p + length part) ws =
     sym (drop-drop (length part) p mid) ∙ ap (λ t. drop (length part) (drop p t)) m ∙ ap (drop (length part)) (drop_at front (drop p ws) p l) ∙ drop-drop (length part) p ws in
     e ∙ ap (λ t. (t ++ part) ++ drop (p + length part) mid) (ap (take p) m ∙ take_at front (drop p ws) p l) ∙ ap (λ t. (front ++ part) ++ t) past

@@ -12,13 +12,13 @@ use Rattle.clause_store.specs.Layout.{LaidOut}
 use Rattle.clause_store.specs.Chains.{Owned, Indexed}
 use Rattle.clause_store.proofs.Owning.{rises}
 
-row-all :
+row_all :
     (P : ℕ → Type 0) (cs : List (List ℕ)) → ((i : ℕ) → i < length cs → (k : ℕ) → k < length (get_or cs i []) → P (get_or (get_or cs i []) k 0)) →
     (k : ℕ) → k < length (row cs) → P (get_or (row cs) k 0)
-row-all P [] f k h = absurd (omega arith)
-row-all P (c ∷ cs) f k h =
+row_all P [] f k h = absurd (omega arith)
+row_all P (c ∷ cs) f k h =
     ⊎_elim (λ lt. subst P (sym (get_or_append_left c (row cs) 0 k lt)) (f 0 (omega arith) k lt))
-    (λ le. subst P (sym (get_or-append_right c (row cs) (length c) k 0 refl le)) (row-all P cs (λ i o. f (suc i) (omega arith)) (k - length c) (omega (arith, length-append c (row cs)))))
+    (λ le. subst P (sym (get_or-append_right c (row cs) (length c) k 0 refl le)) (row_all P cs (λ i o. f (suc i) (omega arith)) (k - length c) (omega (arith, length-append c (row cs)))))
     (cases_lt k (length c))
 
 -- an element of a part has its place in the row
@@ -50,12 +50,12 @@ module _ (n : ℕ) (cs : List (List ℕ)) (literals starts : List ℕ) (f : Fit 
 
   pub literals_below : (k : ℕ) → k < length literals → get_or literals k 0 < 2 * n
   literals_below k h =
-      subst (λ x. get_or x k 0 < 2 * n) (sym e) (row-all (λ x. x < 2 * n) cs (λ i o j l. (f.each i o).below j l) k (omega (arith, ap length e)))
+      subst (λ x. get_or x k 0 < 2 * n) (sym e) (row_all (λ x. x < 2 * n) cs (λ i o j l. (f.each i o).below j l) k (omega (arith, ap length e)))
 
-  pub laid-out-from :
+  pub laid_out_from :
       (owners holders firsts : List ℕ) → Owned starts (length starts - 1) owners → Indexed (2 * n) (length literals) literals owners holders firsts →
       LaidOut n literals starts holders firsts
-  laid-out-from owners holders firsts o x = record {
+  laid_out_from owners holders firsts o x = record {
     rise = starts_rise;
     end = λ i h. omega (arith, rises starts starts_weak i (length starts - 1) (omega arith) (omega arith), starts_last);
     below = literals_below;

@@ -27,20 +27,20 @@ module _ (b n : ℕ) (literals heads links : List ℕ) (w : Chained b n literals
   chained_more l ks el lb e = record {
     wide = length-set heads l (n + 1) ∙ w.wide;
     many = long ∙ ap (λ x. x + 1) w.many;
-    head_within = λ m h. ⊎_elim (λ q. omega (arith, at m q)) (λ ne. omega (arith, off m ne, w.head-within m h)) (cases_eq m l);
+    head_within = λ m h. ⊎_elim (λ q. omega (arith, at m q)) (λ ne. omega (arith, off m ne, w.head_within m h)) (cases_eq m l);
     head_same = λ m h o.
         ⊎_elim (λ q. let z : get_or (set heads l (n + 1)) m 0 - 1 ≡ n = omega (arith, at m q) in ap (λ x. get_or literals x 0) z ∙ el ∙ sym q)
-        (λ ne. ap (λ x. get_or literals (x - 1) 0) (off m ne) ∙ w.head-same m h (omega (arith, off m ne))) (cases_eq m l);
+        (λ ne. ap (λ x. get_or literals (x - 1) 0) (off m ne) ∙ w.head_same m h (omega (arith, off m ne))) (cases_eq m l);
     head_last = λ m k h lt q.
         ⊎_elim (λ z. omega (arith, at m z))
-        (λ ne. let o : k ≢ n = λ z. ne (sym q ∙ ap (λ x. get_or literals x 0) z ∙ el) in omega (arith, off m ne, w.head-last m k h (omega arith) q)) (cases_eq m l);
-    link_before = below_more (λ k. get_or ks k 0 ≤ k) n (λ k h. omega (arith, early k h, w.link-before k h)) (omega (arith, last, w.head-within l lb));
+        (λ ne. let o : k ≢ n = λ z. ne (sym q ∙ ap (λ x. get_or literals x 0) z ∙ el) in omega (arith, off m ne, w.head_last m k h (omega arith) q)) (cases_eq m l);
+    link_before = below_more (λ k. get_or ks k 0 ≤ k) n (λ k h. omega (arith, early k h, w.link_before k h)) (omega (arith, last, w.head_within l lb));
     link_same = below_more (λ k. 0 < get_or ks k 0 → get_or literals (get_or ks k 0 - 1) 0 ≡ get_or literals k 0) n
-        (λ k h o. ap (λ x. get_or literals (x - 1) 0) (early k h) ∙ w.link-same k h (omega (arith, early k h)))
-        (λ o. ap (λ x. get_or literals (x - 1) 0) last ∙ w.head-same l lb (omega (arith, last)) ∙ sym el);
+        (λ k h o. ap (λ x. get_or literals (x - 1) 0) (early k h) ∙ w.link_same k h (omega (arith, early k h)))
+        (λ o. ap (λ x. get_or literals (x - 1) 0) last ∙ w.head_same l lb (omega (arith, last)) ∙ sym el);
     link_last = λ k j h lt q.
-        ⊎_elim (λ z. let p = ap (λ x. get_or ks x 0) z in omega (arith, p, last, w.head-last l j lb (omega arith) (q ∙ ap (λ x. get_or literals x 0) z ∙ el)))
-        (λ ne. omega (arith, early k (omega arith), w.link-last k j (omega arith) lt q)) (cases_eq k n);
+        ⊎_elim (λ z. let p = ap (λ x. get_or ks x 0) z in omega (arith, p, last, w.head_last l j lb (omega arith) (q ∙ ap (λ x. get_or literals x 0) z ∙ el)))
+        (λ ne. omega (arith, early k (omega arith), w.link_last k j (omega arith) lt q)) (cases_eq k n);
   }
     where
       long : length ks ≡ length links + 1
@@ -65,10 +65,10 @@ pub record OnTheWay (links owners : List ℕ) (start link : ℕ) (before after :
   pub goes_on : (ks : List ℕ) → ChainFrom links link ks → ChainFrom links start (places ++ ks)
 
 module _ (links owners : List ℕ) where
-  pub way-more :
+  pub way_more :
       (start k link : ℕ) (before after vs : List ℕ) → OnTheWay links owners start (k + 1) before after → vs ≡ after ++ get_or owners k 0 ∷ [] →
       link ≡ get_or links k 0 → OnTheWay links owners start link before vs
-  way-more start k link before after vs w e q = record {
+  way_more start k link before after vs w e q = record {
     places = w.places ++ k ∷ [];
     is = e ∙ ap (λ x. x ++ get_or owners k 0 ∷ []) w.is ∙ append_assoc before (map own w.places) (get_or owners k 0 ∷ []) ∙ ap (λ x. before ++ x) (sym (map_push own w.places k));
     goes_on = λ ks h. subst (ChainFrom links start) (sym (append_assoc w.places (k ∷ []) ks)) (w.goes_on (k ∷ ks) (refl, subst (λ x. ChainFrom links x ks) q h));
@@ -86,16 +86,16 @@ module _ (b n l : ℕ) (literals heads links : List ℕ) (w : Chained b n litera
   places_within link [] le h k i = absurd i
   places_within link (x ∷ ks) le h k (inl e) = omega (arith, h.0)
   places_within link (x ∷ ks) le h k (inr i) =
-      places_within (get_or links x 0) ks (omega (arith, h.0, w.link-before x (omega (arith, h.0)))) h.1 k i
+      places_within (get_or links x 0) ks (omega (arith, h.0, w.link_before x (omega (arith, h.0)))) h.1 k i
 
-  pub places-whole :
+  pub places_whole :
       (link : ℕ) (ks : List ℕ) → link ≤ n → (0 < link → get_or literals (link - 1) 0 ≡ l) → ChainFrom links link ks →
       (k : ℕ) → k < link → get_or literals k 0 ≡ l → k ∈ ks
-  places-whole link [] le same h k lt q = absurd (omega (arith, h))
-  places-whole link (x ∷ ks) le same h k lt q =
+  places_whole link [] le same h k lt q = absurd (omega (arith, h))
+  places_whole link (x ∷ ks) le same h k lt q =
       ⊎_elim (λ e. inl e)
-      (λ ne. inr (places-whole (get_or links x 0) ks (omega (arith, w.link-before x xn)) (λ o. w.link-same x xn o ∙ here) h.1 k
-      (w.link-last x k xn (omega (arith, h.0)) (q ∙ sym here)) q))
+      (λ ne. inr (places_whole (get_or links x 0) ks (omega (arith, w.link_before x xn)) (λ o. w.link_same x xn o ∙ here) h.1 k
+      (w.link_last x k xn (omega (arith, h.0)) (q ∙ sym here)) q))
       (cases_eq k x)
     where
       xn : x < n

@@ -45,10 +45,10 @@ pub literal_more : (p c xs ys : List ℕ) (j v : ℕ) → xs ≡ p ++ take j c �
 literal_more p c xs ys j v was is pushed h = rw (pushed, was, is, append_assoc, take_more c j 0 h)
 
 -- one start more
-pub start-more :
+pub start_more :
     (f : ℕ → ℕ) (es fs : List ℕ) (i n : ℕ) → length es ≡ i → ((k : ℕ) → k < i → get_or es k 0 ≡ f k) → fs ≡ es ++ n ∷ [] → n ≡ f i →
     (length fs ≡ i + 1) × ((k : ℕ) → k < i + 1 → get_or fs k 0 ≡ f k)
-start-more f es fs i n many each pushed is = (
+start_more f es fs i n many each pushed is = (
   rw (pushed, length_push, many),
   below_more (λ k. get_or fs k 0 ≡ f k) i
       (λ k h. let lt : k < length es = omega arith in rw (pushed, get_or_append_left es (n ∷ []) 0 k lt) (each k h))

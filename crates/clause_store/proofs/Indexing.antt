@@ -6,7 +6,7 @@ use Rattle.theory.specs.Lists.{◌∈◌}
 use Rattle.theory.proofs.Members.{in_append, in_map, map_in, in_at}
 use Rattle.clause_store.specs.Parts.{part, part_at}
 use Rattle.clause_store.specs.Chains.{Chained, Follows, Indexed}
-use Rattle.clause_store.proofs.Chaining.{places_within, places-whole}
+use Rattle.clause_store.proofs.Chaining.{places_within, places_whole}
 
 part_front : (xs more : List ℕ) (a b : ℕ) → a ≤ b → b ≤ length xs → part (xs ++ more) a b ≡ part xs a b
 part_front xs more a b h k =
@@ -54,15 +54,15 @@ module _ (b n : ℕ) (literals owners before firsts more holders fs : List ℕ) 
           (cases_eq l b)
 
 -- the literal b more, by its chain
-pub indexed-more :
+pub indexed_more :
     (bound b n : ℕ) (literals heads links owners before firsts holders fs : List ℕ) → Chained bound n literals heads links → length owners ≡ n → b < bound →
     Indexed b n literals owners before firsts → Follows links owners (get_or heads b 0) before holders → fs ≡ firsts ++ length holders ∷ [] →
     Indexed (b + 1) n literals owners holders fs
-indexed-more bound b n literals heads links owners before firsts holders fs w many lt u f e =
+indexed_more bound b n literals heads links owners before firsts holders fs w many lt u f e =
     indexed_with b n literals owners before firsts (map own f.0) holders fs u f.2 e
     (λ x i. let r = in_map own f.0 x i in
-    subst (λ y. y ∈ owners) (sym r.2) (in_at owners 0 r.0 (omega (arith, many, places_within bound n b literals heads links w (get_or heads b 0) f.0 (w.head-within b lt) f.1 r.0 r.1))))
-    (λ k h q. map_in own f.0 k (places-whole bound n b literals heads links w (get_or heads b 0) f.0 (w.head-within b lt) (w.head-same b lt) f.1 k (w.head-last b k lt h q) q))
+    subst (λ y. y ∈ owners) (sym r.2) (in_at owners 0 r.0 (omega (arith, many, places_within bound n b literals heads links w (get_or heads b 0) f.0 (w.head_within b lt) f.1 r.0 r.1))))
+    (λ k h q. map_in own f.0 k (places_whole bound n b literals heads links w (get_or heads b 0) f.0 (w.head_within b lt) (w.head_same b lt) f.1 k (w.head_last b k lt h q) q))
   where
     own : ℕ → ℕ
     own k = get_or owners k 0

@@ -17,28 +17,28 @@ laid_out s =
 pub next_start : (s : ClauseStore) (i : ℕ) → i < length (clauses_of s) → i + 1 < length (vec_items s.starts)
 next_start s i h = omega (arith, length_parts (vec_items s.literals) (vec_items s.starts))
 
-pub clause-bounds :
+pub clause_bounds :
     (s : ClauseStore) (i x y : ℕ) → i < length (clauses_of s) → x ≡ get_or (vec_items s.starts) i x → y ≡ get_or (vec_items s.starts) (i + 1) y →
     (x < y) × (y ≤ length (vec_items s.literals))
-clause-bounds s i x y h p q =
+clause_bounds s i x y h p q =
     let n = next_start s i h in
     let e = get_or_read (vec_items s.starts) i x (omega arith) p 0 in
     let f = get_or_read (vec_items s.starts) (i + 1) y n q 0 in
     (omega (arith, (laid_out s).rise i n), omega (arith, (laid_out s).end (i + 1) n))
 
-pub holding-bounds :
+pub holding_bounds :
     (s : ClauseStore) (l x y : ℕ) → l < 2 * s.values → x ≡ get_or (vec_items s.firsts) l x → y ≡ get_or (vec_items s.firsts) (l + 1) y →
     (x ≤ y) × (y ≤ length (vec_items s.holders))
-holding-bounds s l x y h p q =
+holding_bounds s l x y h p q =
     let n = (laid_out s).indexed l h in
     let e = get_or_read (vec_items s.firsts) l x (omega arith) p 0 in
     let f = get_or_read (vec_items s.firsts) (l + 1) y n q 0 in
     (omega (arith, (laid_out s).climb l h), omega (arith, (laid_out s).stop l h))
 
 -- with no value and no clause, all is empty
-pub laid-out-none :
+pub laid_out_none :
     (literals starts holders firsts : List ℕ) → literals ≡ [] → starts ≡ [] → holders ≡ [] → firsts ≡ [] → LaidOut 0 literals starts holders firsts
-laid-out-none literals starts holders firsts e f g h = record {
+laid_out_none literals starts holders firsts e f g h = record {
   rise = λ i lt. absurd (omega (arith, ap length f));
   end = λ i lt. absurd (omega (arith, ap length f));
   below = λ k lt. absurd (omega (arith, ap length e));

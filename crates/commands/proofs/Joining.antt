@@ -5,10 +5,10 @@ use Rattle.std.proofs.lemmas.List.{append_assoc, flat_map_more, take_more}
 use Rattle.commands.specs.Texts.{spaced, literals_text, clause_text}
 
 -- one piece more
-pub piece-more :
+pub piece_more :
     {X : Type 0} (f : X → List ℕ) (base : List ℕ) (xs : List X) (i : ℕ) (x : X) (was is : List ℕ) → i < length xs → x ≡ get_or xs i x →
     was ≡ base ++ flat_map f (take i xs) → is ≡ was ++ f x → is ≡ base ++ flat_map f (take (i + 1) xs)
-piece-more f base xs i x was is h e before now =
+piece_more f base xs i x was is h e before now =
     now ∙ ap (λ t. t ++ f x) before ∙ flat_map_more f base (take i xs) x ∙
     ap (λ t. base ++ flat_map f t) (ap (λ y. take i xs ++ y ∷ []) e ∙ sym (take_more xs i x h))
 

@@ -45,10 +45,10 @@ pub bytes_typed : (bs : List ℕ) → ((i : ℕ) → get_or bs i 0 < 256) → Ar
 bytes_typed bs f b h = let r = at_in bs b h in omega (arith, f r.0, r.2)
 
 -- what an accepted file lists keeps the bounds
-pub accepted-within :
+pub accepted_within :
     (bs : List ℕ) (c : Contents) → AreBytes bs → read_file bs ≡ Ok c →
     PointsWithin (length c.points) × (length c.tables ≤ most_tables) × TablesWithin (values_of c.points) c.tables
-accepted-within bs c are e =
+accepted_within bs c are e =
     let r = (accepts_exactly bs c are).0 e in
     subst (λ (x : Contents). PointsWithin (length x.points) × (length x.tables ≤ most_tables) × TablesWithin (values_of x.points) x.tables) r.3
-    (r.1.points-within, omega (arith, length-map r.0.tables listed_table, r.1.tables-within), listed_within r.0 r.1)
+    (r.1.points_within, omega (arith, length-map r.0.tables listed_table, r.1.tables_within), listed_within r.0 r.1)

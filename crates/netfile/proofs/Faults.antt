@@ -13,7 +13,7 @@ use Rattle.netfile.specs.Listings.{AreBytes}
 use Rattle.netfile.specs.Conditions.{layer_of, place_of, Condition, FaultAt, item_bytes, AllPass, after_all, FirstFaultDecides}
 use Rattle.netfile.proofs.Lowest.{number_once}
 use Rattle.netfile.proofs.Steps.{only_trailing, Stop, done, faulty, Passes, step, no_condition}
-use Rattle.netfile.proofs.Passing.{pass_all, Run, run, read-rest}
+use Rattle.netfile.proofs.Passing.{pass_all, Run, run, read_rest}
 
 module _ (s : State) (from : ℕ) (bs : List ℕ) where
   -- the refusal says the whole fault
@@ -51,9 +51,9 @@ first_fault_decides bs f by = (λ e. let r = run bs by in refused r r.stop e, de
         (r : Run start 0 bs) → Stop (after_all start r.items) (0 + length (flat_map item_bytes r.items)) r.rest → read_file bs ≡ Err f →
         (xs : List Item) × (rest : List ℕ) × (bs ≡ flat_map item_bytes xs ++ rest) × AllPass start xs ×
         FaultAt (after_all start xs) (length (flat_map item_bytes xs)) rest f
-    refused r (done _ _ e) h = let q = read-rest bs r in let z : ◌≡◌ {A = ℕ} 0 1 = cc in absurd (omega arith)
+    refused r (done _ _ e) h = let q = read_rest bs r in let z : ◌≡◌ {A = ℕ} 0 1 = cc in absurd (omega arith)
     refused r (faulty g i e) h =
-        let q = read-rest bs r in
+        let q = read_rest bs r in
         let same : g ≡ f = cc in
         let there : 0 + length (flat_map item_bytes r.items) ≡ length (flat_map item_bytes r.items) = omega arith in
         (r.items, r.rest, r.split, r.pass, rw (← there, ← same) i)

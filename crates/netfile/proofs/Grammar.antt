@@ -15,7 +15,7 @@ use Rattle.netfile.specs.Listings.{TableListing, Listing, EntryWithin, ListedWit
 use Rattle.netfile.specs.Conditions.{Finished, Fits, AllPass, after_all}
 use Rattle.netfile.proofs.Statements.{Lists, pair_item, table_items, items_of, ItemsAreListings}
 use Rattle.netfile.proofs.Grids.{distinct_push, distinct_apart}
-use Rattle.netfile.proofs.Midway.{expect_of, midway, bare, listing, with_one, Fresh, Few, few_values, Next, next, nothing_wrong, after_head, after_point, after_table, after-pair}
+use Rattle.netfile.proofs.Midway.{expect_of, midway, bare, listing, with_one, Fresh, Few, few_values, Next, next, nothing_wrong, after_head, after_point, after_table, after_pair}
 
 -- points and tables so far, of p points and n tables, keep the bounds, and tables come only after all the points
 record Partly (p n : ℕ) (es : List Entry) (ts : List TableListing) : Type 0 where
@@ -49,56 +49,56 @@ module _ (p n : ℕ) (es : List Entry) where
       kept : Partly p n (es ++ e ∷ []) []
       kept =
           record {
-            points_within = m.points-within;
+            points_within = m.points_within;
             points_so_far = omega (arith, length_push es e);
-            each_point = each_push EntryWithin es e m.each-point f;
+            each_point = each_push EntryWithin es e m.each_point f;
             points_first = λ h. absurd (omega arith);
-            tables_within = m.tables-within;
-            tables_so_far = m.tables-so-far;
+            tables_within = m.tables_within;
+            tables_so_far = m.tables_so_far;
             each_table = λ t h. absurd h;
           }
 
-  table-onward :
+  table_onward :
       (ts : List TableListing) (l h : ℕ) → Partly p n es ts → l < h → Next p n es ts (table l h) → Onward p n es ts (table l h)
-  table-onward ts l h m a w =
+  table_onward ts l h m a w =
       inl (es, ts ++ bare l h ∷ [], kept, after_table p n es ts l h, sym (flat_map_more table_items (head p n ∷ map point es) ts (bare l h)))
     where
       kept : Partly p n es (ts ++ bare l h ∷ [])
       kept =
           record {
-            points_within = m.points-within;
-            points_so_far = m.points-so-far;
-            each_point = m.each-point;
+            points_within = m.points_within;
+            points_so_far = m.points_so_far;
+            each_point = m.each_point;
             points_first = λ _. w.0.0;
-            tables_within = m.tables-within;
+            tables_within = m.tables_within;
             tables_so_far = omega (arith, length_push ts (bare l h));
             each_table =
-                each_push (ListedWithin (values_of es)) ts (bare l h) m.each-table
+                each_push (ListedWithin (values_of es)) ts (bare l h) m.each_table
                 (record { ascends = a; inside = omega (arith, length-map es (λ (e : Entry). e.values)); of_values = λ x i. absurd i; distinct = tt });
           }
 
-  pair-onward :
+  pair_onward :
       (ts : List TableListing) (t : TableListing) (i j : ℕ) → Partly p n es (ts ++ t ∷ []) → Fresh (values_of es) t (i, j) →
       Onward p n es (ts ++ t ∷ []) (pair i j)
-  pair-onward ts t i j m f =
-      let few = few_values es m.each-point in
-      let after-it = after-pair p n es ts t i j (omega (arith, f.0, few t.low)) (omega (arith, f.1, few t.high)) in
+  pair_onward ts t i j m f =
+      let few = few_values es m.each_point in
+      let after-it = after_pair p n es ts t i j (omega (arith, f.0, few t.low)) (omega (arith, f.1, few t.high)) in
       inl (es, ts ++ with_one t (i, j) ∷ [], kept, after-it, items)
     where
       w : ListedWithin (values_of es) t
-      w = m.each-table t (in_right ts (t ∷ []) t (inl refl))
+      w = m.each_table t (in_right ts (t ∷ []) t (inl refl))
 
       kept : Partly p n es (ts ++ with_one t (i, j) ∷ [])
       kept =
           record {
-            points_within = m.points-within;
-            points_so_far = m.points-so-far;
-            each_point = m.each-point;
-            points_first = λ _. m.points-first (omega (arith, length_push ts t));
-            tables_within = m.tables-within;
-            tables_so_far = omega (arith, m.tables-so-far, length_push ts t, length_push ts (with_one t (i, j)));
+            points_within = m.points_within;
+            points_so_far = m.points_so_far;
+            each_point = m.each_point;
+            points_first = λ _. m.points_first (omega (arith, length_push ts t));
+            tables_within = m.tables_within;
+            tables_so_far = omega (arith, m.tables_so_far, length_push ts t, length_push ts (with_one t (i, j)));
             each_table =
-                each_push (ListedWithin (values_of es)) ts (with_one t (i, j)) (λ u h. m.each-table u (in_left ts (t ∷ []) u h))
+                each_push (ListedWithin (values_of es)) ts (with_one t (i, j)) (λ u h. m.each_table u (in_left ts (t ∷ []) u h))
                 (record {
                   ascends = w.ascends;
                   inside = w.inside;
@@ -122,11 +122,11 @@ module _ (p n : ℕ) (es : List Entry) where
   onward ts (head q k) m f w = absurd w
   onward ts (point e) m f w =
       subst (λ us. Partly p n es us → Onward p n es us (point e)) (sym w.0) (λ m. point_onward e m f w.1) m
-  onward ts (table l h) m f w = table-onward ts l h m f w
+  onward ts (table l h) m f w = table_onward ts l h m f w
   onward ts (pair i j) m f w =
-      subst (λ us. Partly p n es us → Onward p n es us (pair i j)) (sym w.2) (λ m. pair-onward w.0 w.1 i j m w.3) m
+      subst (λ us. Partly p n es us → Onward p n es us (pair i j)) (sym w.2) (λ m. pair_onward w.0 w.1 i j m w.3) m
   onward ts (end k) m f w =
-      inr (omega (arith, m.points-so-far, w.0.0), omega (arith, m.tables-so-far, w.0.1), ap end w.1)
+      inr (omega (arith, m.points_so_far, w.0.0), omega (arith, m.tables_so_far, w.0.1), ap end w.1)
 
   -- before the end record more is expected
   unfinished : (ts : List TableListing) → expect_of p es ts ≡ Nothing → ⊥
@@ -150,18 +150,18 @@ abbrev OfListing : List Item → State → Type 0
 OfListing xs s = (l : Listing) × ListingWithin l × (items_of l ≡ xs) × (listed l ≡ contents s)
 
 -- after all points and tables the end record ends a listing
-whole-listing :
+whole_listing :
     (p n : ℕ) (es : List Entry) (ts : List TableListing) → Partly p n es ts → length es ≡ p → length ts ≡ n →
     OfListing (items_to p n es ts ++ end (pair_count ts) ∷ []) (after (midway p n es ts) (end (pair_count ts)))
-whole-listing p n es ts m e f = (record { points = es; tables = ts }, within, items, refl)
+whole_listing p n es ts m e f = (record { points = es; tables = ts }, within, items, refl)
   where
     within : ListingWithin (record { points = es; tables = ts })
     within =
         record {
-          points_within = subst PointsWithin (sym e) m.points-within;
-          each_point = m.each-point;
-          tables_within = omega (arith, m.tables-within);
-          each_table = m.each-table;
+          points_within = subst PointsWithin (sym e) m.points_within;
+          each_point = m.each_point;
+          tables_within = omega (arith, m.tables_within);
+          each_table = m.each_table;
         }
 
     items : items_of (record { points = es; tables = ts }) ≡ items_to p n es ts ++ end (pair_count ts) ∷ []
@@ -183,8 +183,8 @@ finishes (x ∷ ys) p n es ts m a f =
     (λ w.
     let P : Item → List Item → Type 0 = λ y zs. OfListing (items_to p n es ts ++ y ∷ zs) (after_all (after (midway p n es ts) y) zs) in
     let done = ended (midway p n es ts) (pair_count ts) ys (subst (λ y. AllPass (after (midway p n es ts) y) ys) w.2 a.2) in
-    subst (λ y. P y ys) (sym w.2) (subst (P (end (pair_count ts))) (sym done) (whole-listing p n es ts m w.0 w.1)))
-    (onward p n es ts x m a.0 (next p n es (few_values es m.each-point) ts m.points-first x a.1))
+    subst (λ y. P y ys) (sym w.2) (subst (P (end (pair_count ts))) (sym done) (whole_listing p n es ts m w.0 w.1)))
+    (onward p n es ts x m a.0 (next p n es (few_values es m.each_point) ts m.points_first x a.1))
 
 -- items that pass up to the end are those of a listing
 listing_from : (xs : List Item) → AllPass start xs → Finished (after_all start xs) → OfListing xs (after_all start xs)
@@ -227,52 +227,52 @@ runs_then {s = s} (x ∷ xs) q r =
     runs_on q.pass.0 q.pass.1 refl (runs_then {s = after s x} xs (record { pass = q.pass.2; leads = q.leads }) r)
 
 -- points that keep the bounds pass, up to the announced number
-points-run :
+points_run :
     (p n : ℕ) (es fs : List Entry) → length es + length fs ≤ p → ((e : Entry) → e ∈ fs → EntryWithin e) →
     Runs (midway p n es []) (map point fs) (midway p n (es ++ fs) [])
-points-run p n es [] l f = record { pass = tt; leads = ap (λ w. midway p n w []) (sym (append-nil es)) }
-points-run p n es (e ∷ fs) l f =
+points_run p n es [] l f = record { pass = tt; leads = ap (λ w. midway p n w []) (sym (append-nil es)) }
+points_run p n es (e ∷ fs) l f =
     runs_on (f e (inl refl)) (nothing_wrong p n es [] (point e) (refl, omega arith)) (after_point p n es e)
     (subst (λ w. Runs (midway p n (es ++ e ∷ []) []) (map point fs) (midway p n w [])) (append_assoc es (e ∷ []) fs)
-    (points-run p n (es ++ e ∷ []) fs (omega (arith, length_push es e)) (λ u h. f u (inr h))))
+    (points_run p n (es ++ e ∷ []) fs (omega (arith, length_push es e)) (λ u h. f u (inr h))))
 
 module _ (p n : ℕ) (es : List Entry) (few : Few (values_of es)) where
   -- the pairs of a table pass, after some of them
-  pairs-run :
+  pairs_run :
       (ts : List TableListing) (t : TableListing) (ps qs : List (ℕ × ℕ)) → ListedWithin (values_of es) (listing t (ps ++ qs)) →
       Runs (midway p n es (ts ++ listing t ps ∷ [])) (map pair_item qs) (midway p n es (ts ++ listing t (ps ++ qs) ∷ []))
-  pairs-run ts t ps [] w = record { pass = tt; leads = ap (λ rs. midway p n es (ts ++ listing t rs ∷ [])) (sym (append-nil ps)) }
-  pairs-run ts t ps (x ∷ qs) w =
+  pairs_run ts t ps [] w = record { pass = tt; leads = ap (λ rs. midway p n es (ts ++ listing t rs ∷ [])) (sym (append-nil ps)) }
+  pairs_run ts t ps (x ∷ qs) w =
       let v = w.of_values x (in_right ps (x ∷ qs) x (inl refl)) in
       let P : List (ℕ × ℕ) → Type 0 =
       λ rs. Runs (midway p n es (ts ++ listing t (ps ++ x ∷ []) ∷ [])) (map pair_item qs) (midway p n es (ts ++ listing t rs ∷ [])) in
       runs_on tt
       (nothing_wrong p n es (ts ++ listing t ps ∷ []) (pair_item x) (ts, listing t ps, refl, (v.0, v.1, distinct_apart ps x qs w.distinct)))
-      (after-pair p n es ts (listing t ps) x.0 x.1 (omega (arith, v.0, few t.low)) (omega (arith, v.1, few t.high)))
-      (subst (λ rs. ListedWithin (values_of es) (listing t rs) → P rs) (append_assoc ps (x ∷ []) qs) (pairs-run ts t (ps ++ x ∷ []) qs) w)
+      (after_pair p n es ts (listing t ps) x.0 x.1 (omega (arith, v.0, few t.low)) (omega (arith, v.1, few t.high)))
+      (subst (λ rs. ListedWithin (values_of es) (listing t rs) → P rs) (append_assoc ps (x ∷ []) qs) (pairs_run ts t (ps ++ x ∷ []) qs) w)
 
   -- tables that keep the bounds pass after all the points, up to the announced number
-  tables-run :
+  tables_run :
       (ts us : List TableListing) → p ≤ length es → length ts + length us ≤ n → ((t : TableListing) → t ∈ us → ListedWithin (values_of es) t) →
       Runs (midway p n es ts) (flat_map table_items us) (midway p n es (ts ++ us))
-  tables-run ts [] c l f = record { pass = tt; leads = ap (midway p n es) (sym (append-nil ts)) }
-  tables-run ts (t ∷ us) c l f =
+  tables_run ts [] c l f = record { pass = tt; leads = ap (midway p n es) (sym (append-nil ts)) }
+  tables_run ts (t ∷ us) c l f =
       let w = f t (inl refl) in
       runs_then (table_items t)
       (runs_on w.ascends
       (nothing_wrong p n es ts (table t.low t.high) ((c, omega arith), omega (arith, w.inside, length-map es (λ (e : Entry). e.values))))
-      (after_table p n es ts t.low t.high) (pairs-run ts t [] t.pairs w))
+      (after_table p n es ts t.low t.high) (pairs_run ts t [] t.pairs w))
       (subst (λ vs. Runs (midway p n es (ts ++ t ∷ [])) (flat_map table_items us) (midway p n es vs)) (append_assoc ts (t ∷ []) us)
-      (tables-run (ts ++ t ∷ []) us c (omega (arith, length_push ts t)) (λ u h. f u (inr h))))
+      (tables_run (ts ++ t ∷ []) us c (omega (arith, length_push ts t)) (λ u h. f u (inr h))))
 
 -- the items of a listing that keeps the bounds pass
-listing-runs :
+listing_runs :
     (l : Listing) → ListingWithin l → pair_count l.tables < 65536 →
     Runs start (items_of l) (after (midway (length l.points) (length l.tables) l.points l.tables) (end (pair_count l.tables)))
-listing-runs l w k =
-    runs_on (w.points-within, w.tables-within) refl (after_head p n w.points-within.0)
-    (runs_then (map point es) (points-run p n [] es (omega arith) w.each-point)
-    (runs_then (flat_map table_items ts) (tables-run p n es (few_values es w.each-point) [] ts (omega arith) (omega arith) w.each-table)
+listing_runs l w k =
+    runs_on (w.points_within, w.tables_within) refl (after_head p n w.points_within.0)
+    (runs_then (map point es) (points_run p n [] es (omega arith) w.each_point)
+    (runs_then (flat_map table_items ts) (tables_run p n es (few_values es w.each_point) [] ts (omega arith) (omega arith) w.each_table)
     (runs_on k (nothing_wrong p n es ts (end (pair_count ts)) ((omega arith, omega arith), refl)) refl (record { pass = tt; leads = refl }))))
   where
     es : List Entry
@@ -291,7 +291,7 @@ pub items_are_listings : ItemsAreListings
 items_are_listings xs c = (
   (λ h. let r = listing_from xs h.pass h.finished in (r.0, r.1, r.2, r.3 ∙ h.says)),
   λ l w k e f.
-      let r = listing-runs l w k in
+      let r = listing_runs l w k in
       subst (λ ys. Lists ys c) e
       (record { pass = r.pass; finished = ap (λ (s : State). s.expect) r.leads; says = ap contents r.leads ∙ f }),
 )

@@ -73,10 +73,10 @@ module _ (ps : List (ℕ × ℕ)) (i j : ℕ) where
       (λ d m. sym (lists_other ps (i, j) k m (and_left (eqb k i) (eqb m j) (ne_eqb k i ne))) d)
 
   -- allowing one more pair is listing it
-  pub allowing-listed :
+  pub allowing_listed :
       i < most_values → j < most_values →
       allowing (map (row_of ps) (range_with_len 0 most_values)) i j ≡ map (row_of (ps ++ (i, j) ∷ [])) (range_with_len 0 most_values)
-  allowing-listed h g =
+  allowing_listed h g =
       ap (λ row. set (map (row_of ps) (range_with_len 0 most_values)) i row)
       (ap (λ (row : List Bool). set row j true) (get_or-map-range_with_len (row_of ps) 0 most_values i i [] h (omega arith)) ∙ row_own g) ∙
       set_counted (row_of ps) (row_of (ps ++ (i, j) ∷ [])) most_values i h row_other
@@ -115,6 +115,6 @@ distinct_apart (y ∷ ps) x qs d (inr h) = distinct_apart ps x qs d.1 h
 pub listed_within : (l : Listing) → ListingWithin l → TablesWithin (values_of l.points) (map listed_table l.tables)
 listed_within l w t h =
     let r = in_map listed_table l.tables t h in
-    let v = w.each-table r.0 r.1 in
+    let v = w.each_table r.0 r.1 in
     subst (TableWithin (values_of l.points)) (sym r.2)
     (record { ascends = v.ascends; inside = v.inside; of_values = λ i j a. v.of_values (i, j) (in_from_allows r.0 i j a) })

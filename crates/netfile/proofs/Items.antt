@@ -85,15 +85,15 @@ spelled : (n : ℕ) (bs : List ℕ) → length bs ≡ n → bs ≡ map (λ i. ge
 spelled n bs l = fill_by_all (λ i. get_or bs i 0) bs n 0 l (λ k h. refl)
 
 -- a body that is in order is that of the item that it says
-pub body-says :
+pub body_says :
     (k : Kind) (body : List ℕ) → AreBytes body → length body ≡ body_length k → orderly k body ≡ true →
     (item_bytes (said k body) ≡ code_of k ∷ body) × Fits (said k body)
-body-says Head body by l t = let h = (decides_head body).0 t in let e = spelled 3 body l in (cc, (h.1, h.2))
-body-says Point body by l t =
+body_says Head body by l t = let h = (decides_head body).0 t in let e = spelled 3 body l in (cc, (h.1, h.2))
+body_says Point body by l t =
     (ap (λ bs. 2 ∷ bs) (sym (drop_more body 0 0 (omega arith))), ((decides_point body).0 t, simp length-drop (omega arith)))
-body-says Table body by l t = (ap (λ bs. 3 ∷ bs) (sym (spelled 2 body l)), (Decides-ltb (get_or body 0 0) (get_or body 1 0)).0 t)
-body-says Pair body by l t = (ap (λ bs. 4 ∷ bs) (sym (spelled 2 body l)), tt)
-body-says End body by l t =
+body_says Table body by l t = (ap (λ bs. 3 ∷ bs) (sym (spelled 2 body l)), (Decides-ltb (get_or body 0 0) (get_or body 1 0)).0 t)
+body_says Pair body by l t = (ap (λ bs. 4 ∷ bs) (sym (spelled 2 body l)), tt)
+body_says End body by l t =
     let high = by (get_or body 0 0) (in_at body 0 0 (omega arith)) in
     let low = by (get_or body 1 0) (in_at body 0 1 (omega arith)) in
     let d : (256 * get_or body 0 0 + get_or body 1 0) / 256 ≡ get_or body 0 0 = omega arith in
@@ -113,11 +113,11 @@ item_bytes_lem (pair i j) = refl
 item_bytes_lem (end n) = refl
 
 -- an item that fits is what its body says, and the body is in order
-pub item-says :
+pub item_says :
     (x : Item) → Fits x →
     (length (item_body x) ≡ body_length (kind_of_item x)) × (orderly (kind_of_item x) (item_body x) ≡ true) × (said (kind_of_item x) (item_body x) ≡ x)
-item-says (head p t) f = (refl, (decides_head (1 ∷ p ∷ t ∷ [])).1 (refl, f.0, f.1), refl)
-item-says (point e) f = (omega arith, (decides_point (e.values ∷ e.label)).1 f.0, refl)
-item-says (table l h) f = (refl, (Decides-ltb l h).1 f, refl)
-item-says (pair i j) f = (refl, refl, refl)
-item-says (end n) f = (refl, refl, ap end (omega arith))
+item_says (head p t) f = (refl, (decides_head (1 ∷ p ∷ t ∷ [])).1 (refl, f.0, f.1), refl)
+item_says (point e) f = (omega arith, (decides_point (e.values ∷ e.label)).1 f.0, refl)
+item_says (table l h) f = (refl, (Decides-ltb l h).1 f, refl)
+item_says (pair i j) f = (refl, refl, refl)
+item_says (end n) f = (refl, refl, ap end (omega arith))

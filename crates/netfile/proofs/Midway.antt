@@ -19,7 +19,7 @@ use Rattle.netfile.specs.Bytes.{code_of, kind_of}
 use Rattle.netfile.specs.Records.{Item, head, point, table, pair, end, kind_of_item}
 use Rattle.netfile.specs.Reading.{State, start, table_or_end, may_come, has_kind, empty_table, last_table, objection_to, objection, allow_last, after}
 use Rattle.netfile.specs.Listings.{TableListing, EntryWithin, pair_count, listed_table}
-use Rattle.netfile.proofs.Grids.{last_of, allowing-listed, in_from_allows, allows_from_in}
+use Rattle.netfile.proofs.Grids.{last_of, allowing_listed, in_from_allows, allows_from_in}
 
 -- what is expected after some of p points, and after some tables
 abbrev pub expect_of : ℕ → List Entry → List TableListing → Expectation
@@ -127,10 +127,10 @@ module _ (p n : ℕ) (es : List Entry) where
   last_is : (ts : List TableListing) (t : TableListing) → last_table (ending p n es ts t) ≡ listed_table t
   last_is ts t = get_or_push (map listed_table ts) (listed_table t) (empty_table 0 0) (length (ending p n es ts t).tables - 1) (place_of_last ts t)
 
-  pub after-pair :
+  pub after_pair :
       (ts : List TableListing) (t : TableListing) (i j : ℕ) → i < most_values → j < most_values →
       after (midway p n es (ts ++ t ∷ [])) (pair i j) ≡ midway p n es (ts ++ with_one t (i, j) ∷ [])
-  after-pair ts t i j h g =
+  after_pair ts t i j h g =
       ap (λ s. after s (pair i j)) (midway_push ts t) ∙
       (λ k. record { expect = Pairs; announced_points = p; announced_tables = n; points = es; tables = tables k; pairs = pairs k }) ∙
       sym (midway_push ts (with_one t (i, j)))
@@ -145,7 +145,7 @@ module _ (p n : ℕ) (es : List Entry) where
       tables =
           ap (λ u. set (map listed_table ts ++ listed_table t ∷ []) at (allow u)) (last_is ts t) ∙
           set_at (map listed_table ts) (listed_table t) [] (allow (listed_table t)) at (place_of_last ts t) ∙
-          ap (λ rows. map listed_table ts ++ record { low = t.low; high = t.high; rows = rows } ∷ []) (allowing-listed t.pairs i j h g)
+          ap (λ rows. map listed_table ts ++ record { low = t.low; high = t.high; rows = rows } ∷ []) (allowing_listed t.pairs i j h g)
 
       pairs : pair_count ts + length t.pairs + 1 ≡ pair_count ts + length (t.pairs ++ (i, j) ∷ [])
       pairs = omega (arith, length_push t.pairs (i, j))
@@ -261,10 +261,10 @@ module _ (p n : ℕ) (es : List Entry) where
   Next ts (end m) = Awaited p n es ts End × (m ≡ pair_count ts)
 
   -- what is wrong with a pair depends on the last table
-  pair-objection :
+  pair_objection_lem :
       (us : List TableListing) (t : TableListing) (i j : ℕ) →
       objection_to (midway p n es (us ++ t ∷ [])) (pair i j) ≡ pair_objection (values_of es) (listed_table t) i j
-  pair-objection us t i j =
+  pair_objection_lem us t i j =
       ap (λ s. objection_to s (pair i j)) (midway_push p n es us t) ∙ ap (λ u. pair_objection (values_of es) u i j) (last_is p n es us t)
 
   -- an item with which nothing is wrong is in place
@@ -279,7 +279,7 @@ module _ (p n : ℕ) (es : List Entry) where
       says (point e) a o = a
       says (table l h) a o = (a, ltb-true h (length es) (none_from (ltb h (length es)) None MissingPoint o).0)
       says (pair i j) (us, t, q) o =
-          (us, t, q, fresh_from (values_of es) t i j few (sym (ap (λ w. objection_to (midway p n es w) (pair i j)) q ∙ pair-objection us t i j) ∙ o))
+          (us, t, q, fresh_from (values_of es) t i j few (sym (ap (λ w. objection_to (midway p n es w) (pair i j)) q ∙ pair_objection_lem us t i j) ∙ o))
       says (end m) a o = (a, eqb-true m (pair_count ts) (none_from (eqb m (pair_count ts)) None WrongCount o).0)
 
   -- with an item in place nothing is wrong
@@ -300,5 +300,5 @@ module _ (p n : ℕ) (es : List Entry) where
       said (point e) h = refl
       said (table l g) h = cond-true (ltb g (length es)) None (Some MissingPoint) (lt-ltb g (length es) h.1)
       said (pair i j) (us, t, q, f) =
-          ap (λ w. objection_to (midway p n es w) (pair i j)) q ∙ pair-objection us t i j ∙ from_fresh (values_of es) t i j f
+          ap (λ w. objection_to (midway p n es w) (pair i j)) q ∙ pair_objection_lem us t i j ∙ from_fresh (values_of es) t i j f
       said (end m) h = cond-true (eqb m (pair_count ts)) None (Some WrongCount) (eq-eqb m (pair_count ts) h.1)

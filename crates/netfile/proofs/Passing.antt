@@ -11,7 +11,7 @@ use Rattle.netfile.specs.Listings.{AreBytes}
 use Rattle.netfile.specs.Conditions.{item_bytes, Fits, AllPass, after_all}
 use Rattle.netfile.proofs.Statements.{Lists, BytesAreItems}
 use Rattle.netfile.proofs.Runs.{skip}
-use Rattle.netfile.proofs.Items.{item_body, item_bytes_lem, item-says}
+use Rattle.netfile.proofs.Items.{item_body, item_bytes_lem, item_says}
 use Rattle.netfile.proofs.Steps.{Stop, done, faulty, Passes, step, next_item}
 
 -- what is left of a record is passed over
@@ -20,13 +20,13 @@ skip_over s place xs rest =
     skip (xs ++ rest) s place (length xs) (omega (arith, length-append xs rest)) ∙ ap (read_from s (place + length xs) 0) (drop_at xs rest (length xs) refl)
 
 -- a record that passes is read, and reading goes on behind it
-pass-one :
+pass_one :
     (s : State) (place : ℕ) (x : Item) (rest : List ℕ) → Fits x → objection s x ≡ None →
     read_from s place 0 (item_bytes x ++ rest) ≡ read_from (after s x) (place + length (item_bytes x)) 0 rest
-pass-one s place x rest f o =
+pass_one s place x rest f o =
     let n = subst (λ bs. next_at s.expect s place (bs ++ rest) ≡ Ok x) (item_bytes_lem x) (next_item s x rest f o place) in
     rw (item_bytes_lem x, n)
-    (ap (λ k. read_from (after s x) (place + 1) k (item_body x ++ rest)) (sym (item-says x f).0)
+    (ap (λ k. read_from (after s x) (place + 1) k (item_body x ++ rest)) (sym (item_says x f).0)
     ∙ skip_over (after s x) place (code_of (kind_of_item x) ∷ item_body x) rest)
 
 -- the same of records that all pass
@@ -36,7 +36,7 @@ pub pass_all :
 pass_all [] s place rest h = ap (λ p. read_from s p 0 rest) (omega arith)
 pass_all (x ∷ xs) s place rest (f, o, h) =
     rw (append_assoc (item_bytes x) (flat_map item_bytes xs) rest)
-    (pass-one s place x (flat_map item_bytes xs ++ rest) f o
+    (pass_one s place x (flat_map item_bytes xs ++ rest) f o
     ∙ pass_all xs (after s x) (place + length (item_bytes x)) rest h
     ∙ ap (λ p. read_from (after_all (after s x) xs) p 0 rest) (omega (arith, length-append (item_bytes x) (flat_map item_bytes xs))))
 
@@ -83,10 +83,10 @@ pub run : (bs : List ℕ) → AreBytes bs → Run start 0 bs
 run bs by = run_upto (length bs) start 0 bs (omega arith) by
 
 -- a file reads as what is left after the records that pass
-pub read-rest :
+pub read_rest :
     (bs : List ℕ) (r : Run start 0 bs) →
     read_file bs ≡ read_from (after_all start r.items) (0 + length (flat_map item_bytes r.items)) 0 r.rest
-read-rest bs r = ap read_file r.split ∙ pass_all r.items start 0 r.rest r.pass
+read_rest bs r = ap read_file r.split ∙ pass_all r.items start 0 r.rest r.pass
 
 pub bytes_are_items : BytesAreItems
 bytes_are_items bs c by = (λ e. let r = run bs by in accepted r r.stop e, lists)
@@ -95,12 +95,12 @@ bytes_are_items bs c by = (λ e. let r = run bs by in accepted r r.stop e, lists
         (r : Run start 0 bs) → Stop (after_all start r.items) (0 + length (flat_map item_bytes r.items)) r.rest → read_file bs ≡ Ok c →
         (xs : List Item) × (flat_map item_bytes xs ≡ bs) × Lists xs c
     accepted r (done f n e) h =
-        let q = read-rest bs r in (
+        let q = read_rest bs r in (
           r.items,
           sym (r.split ∙ ap (λ l. flat_map item_bytes r.items ++ l) n ∙ append-nil (flat_map item_bytes r.items)),
           record { pass = r.pass; finished = f; says = cc },
         )
-    accepted r (faulty f _ e) h = let q = read-rest bs r in let z : ◌≡◌ {A = ℕ} 0 1 = cc in absurd (omega arith)
+    accepted r (faulty f _ e) h = let q = read_rest bs r in let z : ◌≡◌ {A = ℕ} 0 1 = cc in absurd (omega arith)
 
     lists : (xs : List Item) → flat_map item_bytes xs ≡ bs → Lists xs c → read_file bs ≡ Ok c
     lists xs e l =

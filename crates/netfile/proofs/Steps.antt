@@ -17,8 +17,8 @@ use Rattle.netfile.specs.Listings.{AreBytes}
 use Rattle.netfile.specs.Conditions.{Begins, Finished, Condition, FaultAt, item_bytes, Fits}
 use Rattle.netfile.proofs.Lowest.{refusals, first, first_lowest, first_or_later}
 use Rattle.netfile.proofs.Fronts.{Front, short, unknown, whole, front, raw_short, raw_unknown, raw_whole}
-use Rattle.netfile.proofs.Items.{orderly, bad_of, said, item_body, item_bytes_lem, item-says, body-says}
-use Rattle.netfile.proofs.Verdicts.{met, decides_met, fault_of, outcome, first-met, verdict}
+use Rattle.netfile.proofs.Items.{orderly, bad_of, said, item_body, item_bytes_lem, item_says, body_says}
+use Rattle.netfile.proofs.Verdicts.{met, decides_met, fault_of, outcome, first_met, verdict}
 
 -- more is expected: the next record goes through the three layers, and the file may not end
 abbrev Going : Expectation → Type 0
@@ -57,10 +57,10 @@ fault_stops s place [] f u e = let g = (going s u).2 s place in let h = (going s
 fault_stops s place (b ∷ bs) f u e = rw e refl
 
 -- the next record, where it is whole
-next-whole :
+next_whole :
     (s : State) (place : ℕ) (k : Kind) (body bs : List ℕ) → (Finished s → ⊥) → Begins k body bs →
     next_at s.expect s place bs ≡ outcome place (first (met s k body) refusals) (said k body)
-next-whole s place k body bs u b = rw ((going s u).1 s place bs, raw_whole place k body bs b) (verdict s place k body)
+next_whole s place k body bs u b = rw ((going s u).1 s place bs, raw_whole place k body bs b) (verdict s place k body)
 
 -- a whole record at which a condition is met has the fault of the first that is
 refused :
@@ -92,9 +92,9 @@ pub record Passes (s : State) (bs : List ℕ) : Type 0 where
   pub unopposed : objection s item ≡ None
 
 -- where no condition is met, the record is in order by itself, and nothing is wrong with the item where it stands
-none-met :
+none_met :
     (s : State) (k : Kind) (body : List ℕ) → first (met s k body) refusals ≡ None → (orderly k body ≡ true) × (objection s (said k body) ≡ None)
-none-met s k body e = go (orderly k body) (sym (first-met s k body) ∙ e)
+none_met s k body e = go (orderly k body) (sym (first_met s k body) ∙ e)
   where
     go : (b : Bool) → cond b (objection s (said k body)) (Some (bad_of k)) ≡ None → (b ≡ true) × (objection s (said k body) ≡ None)
     go true h = (refl, h)
@@ -104,10 +104,10 @@ none-met s k body e = go (orderly k body) (sym (first-met s k body) ∙ e)
 passed :
     (s : State) (k : Kind) (body bs : List ℕ) → AreBytes bs → Begins k body bs → first (met s k body) refusals ≡ None → Passes s bs
 passed s k body bs by (l, (rest, e)) n =
-    record { item = said k body; rest = rest; split = rw says.0 e; fits = says.1; unopposed = (none-met s k body n).1 }
+    record { item = said k body; rest = rest; split = rw says.0 e; fits = says.1; unopposed = (none_met s k body n).1 }
   where
     says : (item_bytes (said k body) ≡ code_of k ∷ body) × Fits (said k body)
-    says = body-says k body (λ b i. by b (subst (λ x. b ∈ x) (sym e) (inr (in_left body rest b i)))) l (none-met s k body n).0
+    says = body_says k body (λ b i. by b (subst (λ x. b ∈ x) (sym e) (inr (in_left body rest b i)))) l (none_met s k body n).0
 
 -- the file ends in order, or there is a fault
 pub data Stop (s : State) (place : ℕ) (bs : List ℕ) : Type 0 where
@@ -157,7 +157,7 @@ going_step s place bs by u (whole k body b) = go (first (met s k body) refusals)
     go None e = inr (passed s k body bs by b e)
     go (Some r) e =
         inl (faulty (fault_of place r) (refused s place k body bs u b r e)
-        (fault_stops s place bs (fault_of place r) u (rw (next-whole s place k body bs u b, e) refl)))
+        (fault_stops s place bs (fault_of place r) u (rw (next_whole s place k body bs u b, e) refl)))
 
 -- at any place the file ends in order, there is a fault, or a record passes
 pub step : (s : State) (place : ℕ) (bs : List ℕ) → AreBytes bs → Stop s place bs ⊎ Passes s bs
@@ -166,7 +166,7 @@ step s place bs by =
 
 -- the bytes of an item that fits begin with its record
 item_begins : (x : Item) (rest : List ℕ) → Fits x → Begins (kind_of_item x) (item_body x) (item_bytes x ++ rest)
-item_begins x rest f = ((item-says x f).0, (rest, ap (λ bs. bs ++ rest) (item_bytes_lem x)))
+item_begins x rest f = ((item_says x f).0, (rest, ap (λ bs. bs ++ rest) (item_bytes_lem x)))
 
 module _ (s : State) (x : Item) (rest : List ℕ) (fits : Fits x) (unopposed : objection s x ≡ None) where
   -- after the end record nothing passes
@@ -177,13 +177,13 @@ module _ (s : State) (x : Item) (rest : List ℕ) (fits : Fits x) (unopposed : o
 
   -- no condition is met at a record that passes
   none_at : first (met s (kind_of_item x) (item_body x)) refusals ≡ None
-  none_at = rw (first-met s (kind_of_item x) (item_body x), (item-says x fits).1, (item-says x fits).2) unopposed
+  none_at = rw (first_met s (kind_of_item x) (item_body x), (item_says x fits).1, (item_says x fits).2) unopposed
 
   -- a record that passes is read as its item
   pub next_item : (place : ℕ) → next_at s.expect s place (item_bytes x ++ rest) ≡ Ok x
   next_item place =
-      rw (next-whole s place (kind_of_item x) (item_body x) (item_bytes x ++ rest) not_finished (item_begins x rest fits), none_at)
-      (ap (λ y. Ok y) (item-says x fits).2)
+      rw (next_whole s place (kind_of_item x) (item_body x) (item_bytes x ++ rest) not_finished (item_begins x rest fits), none_at)
+      (ap (λ y. Ok y) (item_says x fits).2)
 
   -- and the condition of no refusal holds at it
   pub no_condition : (y : Refusal) → Condition y s (item_bytes x ++ rest) → ⊥

@@ -28,10 +28,10 @@ pub tables_push : (ts us : List Table) (t : Table) (m : TableMeaning) → us ≡
 tables_push ts us t m e f = ap tables_of e ∙ map_push table_of ts t ∙ ap (λ x. tables_of ts ++ x ∷ []) f
 
 -- a write at the last place is a write of the last table
-pub tables-allow :
+pub tables_allow :
     (ts us : List Table) (t u : Table) (i j n : ℕ) → 0 < n → n ≡ length ts → t ≡ get_or ts (n - 1) t → us ≡ set ts (n - 1) u →
     table_of u ≡ with_allowed (table_of t) i j → tables_of us ≡ allow_last (tables_of ts) i j
-tables-allow ts us t u i j n h l e f g =
+tables_allow ts us t u i j n h l e f g =
     let last : table_of t ≡ last_of (tables_of ts) = last_is ts t (omega arith) (e ∙ ap (λ m. get_or ts (m - 1) t) l) in
     ap tables_of f ∙ map-set table_of ts (n - 1) u ∙
     ap (λ m. set (tables_of ts) (m - 1) (table_of u)) (l ∙ sym (length-map ts table_of)) ∙

@@ -60,10 +60,10 @@ decides_values s i j =
 
 module _ (s : State) (k : Kind) (body bs : List ℕ) (begins : Begins k body bs) (unfinished : Finished s → ⊥) where
   -- of a condition on the bodies of one kind of record
-  decides-of :
+  decides_of :
       (j : Kind) (P : List ℕ → Type 0) (t : Bool) → Decides t (P body) →
       Decides (is j k && t) ((Finished s → ⊥) × ((b : List ℕ) × Begins j b bs × P b))
-  decides-of j P t d = (
+  decides_of j P t d = (
     λ e.
         let p = and_parts (is j k) t e in
         (unfinished, (body, subst (λ x. Begins x body bs) ((decides_is j k).0 p.0) begins, d.0 p.1)),
@@ -84,26 +84,26 @@ module _ (s : State) (k : Kind) (body bs : List ℕ) (begins : Begins k body bs)
       let p = raw_unknown 0 c.1.0 c.1.1 c.1.3 in
       let q = raw_whole 0 k body bs begins in
       let z : ◌≡◌ {A = ℕ} 0 1 = cc in omega arith)
-  decides_met BadHead = decides-of Head (λ b. HeadWithin b → ⊥) (not (head_fits body)) (Decides-not (head_fits body) (decides_head body))
+  decides_met BadHead = decides_of Head (λ b. HeadWithin b → ⊥) (not (head_fits body)) (Decides-not (head_fits body) (decides_head body))
   decides_met BadPoint =
-      decides-of Point (λ b. PointWithin (get_or b 0 0) (drop 1 b) → ⊥) (not (point_fits body)) (Decides-not (point_fits body) (decides_point body))
+      decides_of Point (λ b. PointWithin (get_or b 0 0) (drop 1 b) → ⊥) (not (point_fits body)) (Decides-not (point_fits body) (decides_point body))
   decides_met BadTable =
-      decides-of Table (λ b. get_or b 1 0 ≤ get_or b 0 0) (not (table_fits body)) (decides_le (get_or body 0 0) (get_or body 1 0))
+      decides_of Table (λ b. get_or b 1 0 ≤ get_or b 0 0) (not (table_fits body)) (decides_le (get_or body 0 0) (get_or body 1 0))
   decides_met Misplaced =
       let d = Decides-not (has_kind (may_come s.expect s) k) (decides_kind (may_come s.expect s) k) in (
         λ e. (unfinished, (k, body, begins, d.0 e)),
         λ c. d.1 (subst (λ x. x ∈ may_come s.expect s → ⊥) (sym (begins_once k c.1.0 body c.1.1 bs begins c.1.2).0) c.1.3),
       )
   decides_met MissingPoint =
-      decides-of Table (λ b. length s.points ≤ get_or b 1 0) (not (ltb (get_or body 1 0) (length s.points)))
+      decides_of Table (λ b. length s.points ≤ get_or b 1 0) (not (ltb (get_or body 1 0) (length s.points)))
       (decides_le (get_or body 1 0) (length s.points))
   decides_met MissingValue =
-      decides-of Pair (λ b. HasValues s (get_or b 0 0) (get_or b 1 0) → ⊥) (not (has_values s (get_or body 0 0) (get_or body 1 0)))
+      decides_of Pair (λ b. HasValues s (get_or b 0 0) (get_or b 1 0) → ⊥) (not (has_values s (get_or body 0 0) (get_or body 1 0)))
       (Decides-not (has_values s (get_or body 0 0) (get_or body 1 0)) (decides_values s (get_or body 0 0) (get_or body 1 0)))
   decides_met RepeatedPair =
-      decides-of Pair (λ b. allows (last_table s) (get_or b 0 0) (get_or b 1 0) ≡ true) (allows (last_table s) (get_or body 0 0) (get_or body 1 0)) (λ e. e, λ e. e)
+      decides_of Pair (λ b. allows (last_table s) (get_or b 0 0) (get_or b 1 0) ≡ true) (allows (last_table s) (get_or body 0 0) (get_or body 1 0)) (λ e. e, λ e. e)
   decides_met WrongCount =
-      decides-of End (λ b. 256 * get_or b 0 0 + get_or b 1 0 ≡ s.pairs → ⊥) (not (eqb (256 * get_or body 0 0 + get_or body 1 0) s.pairs))
+      decides_of End (λ b. 256 * get_or b 0 0 + get_or b 1 0 ≡ s.pairs → ⊥) (not (eqb (256 * get_or body 0 0 + get_or body 1 0) s.pairs))
       (Decides-not (eqb (256 * get_or body 0 0 + get_or body 1 0) s.pairs) (Decides-eqb (256 * get_or body 0 0 + get_or body 1 0) s.pairs))
   decides_met TrailingBytes = decides_never (λ c. unfinished c.0)
 
@@ -148,19 +148,19 @@ cond_not true x y = refl
 cond_not false x y = refl
 
 -- the first condition that is met, as the layers look for it
-pub first-met :
+pub first_met :
     (s : State) (k : Kind) (body : List ℕ) → first (met s k body) refusals ≡ cond (orderly k body) (objection s (said k body)) (Some (bad_of k))
-first-met s Head body = simp cond_not
-first-met s Point body = simp cond_not
-first-met s Table body = simp cond_not
-first-met s Pair body = simp cond_not
-first-met s End body = simp cond_not
+first_met s Head body = simp cond_not
+first_met s Point body = simp cond_not
+first_met s Table body = simp cond_not
+first_met s Pair body = simp cond_not
+first_met s End body = simp cond_not
 
 -- the record and the network layer say of a whole record the first condition that is met
 pub verdict :
     (s : State) (place : ℕ) (k : Kind) (body : List ℕ) →
     admitted s place (checked place k body) ≡ outcome place (first (met s k body) refusals) (said k body)
-verdict s place k body = rw (checked_is place k body, first-met s k body) (layered (orderly k body))
+verdict s place k body = rw (checked_is place k body, first_met s k body) (layered (orderly k body))
   where
     layered :
         (b : Bool) → admitted s place (in_order place b (bad_of k) (said k body)) ≡

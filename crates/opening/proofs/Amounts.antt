@@ -36,17 +36,17 @@ module _ (net : Network) (within : Bounded net) where
       )
 
   half_most : (s : Side) (t : Table) → length (half ks s t) ≤ 16
-  half_most s t = omega (arith, half_length ks s t, within.few-values (near s t))
+  half_most s t = omega (arith, half_length ks s t, within.few_values (near s t))
 
   barred_most : (t : Table) (i : ℕ) → length (barred_with ks t i) ≤ 16
-  barred_most t i = omega (arith, barred_length ks t i, within.few-values t.high)
+  barred_most t i = omega (arith, barred_length ks t i, within.few_values t.high)
 
   two_most : (p : ℕ) → length (not_two ks p) ≤ 128
-  two_most p = omega (arith, twice_not_two ks p, within.few-values p, mul-le-mul_right (count ks p) (within.few-values p))
+  two_most p = omega (arith, twice_not_two ks p, within.few_values p, mul-le-mul_right (count ks p) (within.few_values p))
 
   table_most : (e : Encoding) (t : Table) → length (table_clauses e ks t) ≤ 256
   table_most Direct t =
-      omega (arith, joined_few (barred_with ks t) (values ks t.low) 16 (barred_most t), length-range_with_len 0 (count ks t.low), within.few-values t.low)
+      omega (arith, joined_few (barred_with ks t) (values ks t.low) 16 (barred_most t), length-range_with_len 0 (count ks t.low), within.few_values t.low)
   table_most Support t = omega (arith, length-append (half ks Lower t) (half ks Higher t), half_most Lower t, half_most Higher t)
   table_most MinimalSupport t = omega (arith, half_most (better_side ks t) t)
 
@@ -58,7 +58,7 @@ module _ (net : Network) (within : Bounded net) where
         length-map-range_with_len (some_clause ks) 0 (length ks),
         joined_few (not_two ks) (points ks) 128 two_most,
         length-range_with_len 0 (length ks),
-        within.few-points,
+        within.few_points,
         joined_few (table_clauses e ks) net.tables 256 (table_most e),
-        within.few-tables,
+        within.few_tables,
       )

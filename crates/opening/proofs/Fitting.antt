@@ -70,7 +70,7 @@ module _ (net : Network) (within : Bounded net) where
       let n = length-map-range_with_len (λ i. is_in (number ks p i)) 0 (count ks p) in
       record {
         some = omega (arith, within.proper.valued p h);
-        short = omega (arith, within.few-values p);
+        short = omega (arith, within.few_values p);
         single = in_single (offset ks p) (values ks p) (counting_distinct 0 (count ks p));
       }
   one_shaped c (at_most p i j h k) = pair_shaped ks p i p j (λ e. omega arith)
@@ -80,7 +80,7 @@ module _ (net : Network) (within : Bounded net) where
   form_shaped c (support s t it i h) =
       record {
         some = omega arith;
-        short = omega (arith, support_length net within s t i, within.few-values (far s t));
+        short = omega (arith, support_length net within s t i, within.few_values (far s t));
         single = support_single s t it i h;
       }
 

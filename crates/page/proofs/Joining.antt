@@ -1,27 +1,27 @@
 -- Texts that are written one after the other.
 use Rattle.std.proofs.Common.{◌≡◌, ℕ, ◌+◌, ◌<◌, ◌≤◌, List, [], ◌∷◌, ◌++◌, length, take, drop, set, Ok, Err, Result, sym, refl, ap, ◌∙◌, add-zero, arith}
 use Rattle.std.proofs.lemmas.List.{append-nil, append_assoc, take-append-drop, drop_all, length-append, length_push, length-take-le}
-use Rattle.books.proofs.Filling.{fill_more, part-more}
+use Rattle.books.proofs.Filling.{fill_more, part_more}
 use Rattle.page.specs.declared.refusal.PageRefusal.{PageRefusal}
 use Rattle.page.specs.declared.refusal.PageRefusal.TheVariants.{TooShort}
 use Rattle.page.specs.Writing.{Placed, Written}
 
 -- two texts that are written one behind the other are one text
-pub placed-both :
+pub placed_both :
     (t u old mid new : List ℕ) (at m n : ℕ) → at ≤ length old → Placed t at old mid m → Placed u m mid new n → Placed (t ++ u) at old new n
-placed-both t u old mid new at m n h f g =
+placed_both t u old mid new at m n h f g =
     let l : length (take at old ++ t) ≡ m = omega (arith, length-append (take at old) t, length-take-le at old h, f.0) in
     let past : m + length u ≡ at + length (t ++ u) = omega (arith, length-append t u, f.0) in (
       omega (arith, g.0),
-      part-more (take at old ++ t) u old mid new m l (f.1 ∙ ap (λ k. (take at old ++ t) ++ drop k old) (sym f.0)) g.1 ∙
+      part_more (take at old ++ t) u old mid new m l (f.1 ∙ ap (λ k. (take at old ++ t) ++ drop k old) (sym f.0)) g.1 ∙
           ap (λ x. x ++ drop (m + length u) old) (append_assoc (take at old) t u) ∙
           ap (λ k. (take at old ++ (t ++ u)) ++ drop k old) past,
     )
 
 -- one byte more is written behind a text
-pub placed-more :
+pub placed_more :
     (t old mid : List ℕ) (at m x : ℕ) → at ≤ length old → m < length old → Placed t at old mid m → Placed (t ++ x ∷ []) at old (set mid m x) (m + 1)
-placed-more t old mid at m x h k f =
+placed_more t old mid at m x h k f =
     let l : length (take at old ++ t) ≡ m = omega (arith, length-append (take at old) t, length-take-le at old h, f.0) in
     let past : m + 1 ≡ at + length (t ++ x ∷ []) = omega (arith, length_push t x, f.0) in (
       past,

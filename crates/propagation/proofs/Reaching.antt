@@ -25,7 +25,7 @@ module _ (cs : List (List ℕ)) (t : List ℕ) where
 
 module _ (n : ℕ) (cs : List (List ℕ)) (within : Within n cs) where
   pub reaches_held : (t : List ℕ) (l : ℕ) → Reaches cs t l → has (reached_set cs n t) l ≡ true
-  reaches_held t l r = let s = rounds_suffice n cs t within in r (has (reached_set cs n t)) s.holds-all s.closed
+  reaches_held t l r = let s = rounds_suffice n cs t within in r (has (reached_set cs n t)) s.holds_all s.closed
 
   pub held_reaches : (t : List ℕ) (l : ℕ) → has (reached_set cs n t) l ≡ true → Reaches cs t l
   held_reaches t l e T h cl = (rounds_suffice n cs t within).smallest T h cl l e

@@ -17,10 +17,10 @@ use Rattle.propagator.proofs.Standings.{few}
 use Rattle.propagator.proofs.Deciding.{marks_agree}
 
 -- a state by its parts
-pub same-state :
+pub same_state :
     (n m : ℕ) (cs bs : List (List ℕ)) (ds es : List ℕ) → n ≡ m → cs ≡ bs → ds ≡ es →
     ◌≡◌ {A = State} (record { values = n; clauses = cs; decisions = ds }) (record { values = m; clauses = bs; decisions = es })
-same-state n m cs bs ds es p q r = λ i. record { values = p i; clauses = q i; decisions = r i }
+same_state n m cs bs ds es p q r = λ i. record { values = p i; clauses = q i; decisions = r i }
 
 module _ (p : Propagator) where
   pub standing_of : Standing p.store.values (clauses_of p.store) (literals_of p.trail) (vec_items p.decisions) (vec_items p.heights) p.clashed

@@ -20,10 +20,10 @@ module _ (n : ℕ) (cs : List (List ℕ)) (t ds hs : List ℕ) (b : Bool) (k : S
     front : (h : ℕ) → h ≤ length t → take h u ≡ take h t
     front h le = ap (take h) (is ∙ ap (λ x. x ++ more) q ∙ append_assoc t (l ∷ []) more) ∙ take-append-le h t ((l ∷ []) ++ more) le
 
-    pub standing-decide :
+    pub standing_decide :
         l < 2 * n → HoldsReached cs n ds t → (r ≡ false → HoldsReached cs n (ds ++ l ∷ []) u) → r ≡ clashed cs n (ds ++ l ∷ []) →
         Standing n cs u (ds ++ l ∷ []) (hs ++ length t ∷ []) r
-    standing-decide lt now calm flag = record {
+    standing_decide lt now calm flag = record {
       many = omega (arith, length_push hs (length t), length_push ds l, k.many);
       small = small;
       rise = rise;
@@ -123,9 +123,9 @@ standing_none n cs t b f g = record {
 }
 
 -- with no value, no clause and no decision
-pub standing-empty :
+pub standing_empty :
     (n : ℕ) (cs : List (List ℕ)) (t ds hs : List ℕ) → n ≡ 0 → cs ≡ [] → t ≡ [] → ds ≡ [] → hs ≡ [] → Standing n cs t ds hs false
-standing-empty n cs t ds hs p q e d h = record {
+standing_empty n cs t ds hs p q e d h = record {
   many = ap length h ∙ sym (ap length d);
   small = λ k lt. absurd (omega (arith, ap length d));
   rise = λ j k o lt. absurd (omega (arith, ap length h));

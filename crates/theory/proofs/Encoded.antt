@@ -109,11 +109,11 @@ module _ (ks : List ℕ) (m : List Bool) where
   )
 
   -- direct clauses: no two values that the table does not allow are both in
-  direct-met :
+  direct_met :
       (t : Table) →
       AllMet m (direct_clauses ks t) ↔
       ((i : ℕ) → i < count ks t.low → (j : ℕ) → j < count ks t.high → allows t i j ≡ false → HasIn ks m t.low i → HasIn ks m t.high j → ⊥)
-  direct-met t = (
+  direct_met t = (
     λ a i b j d f.
         (both_met t.low i t.high j).0
         ((all_map m (not_both ks t.low i t.high) (filter (λ j. not (allows t i j)) (values ks t.high))).0
@@ -129,12 +129,12 @@ module _ (ks : List ℕ) (m : List Bool) where
   )
 
   -- a half: each value of its end that is in has a partner that is in
-  half-met :
+  half_met :
       (s : Side) (t : Table) →
       AllMet m (half ks s t) ↔
       ((i : ℕ) → i < count ks (near s t) → HasIn ks m (near s t) i →
       (j : ℕ) × (j < count ks (far s t)) × (partner s t i j ≡ true) × HasIn ks m (far s t) j)
-  half-met s t = (
+  half_met s t = (
     λ a i b h.
         let r = (in_met (far s t) (partners i)).0
         ((out_met m (number ks (near s t) i) (rest i)).0
@@ -167,9 +167,9 @@ module _ (ks : List ℕ) (t : Table) (low-point : t.low < length ks) (high-point
   direct_tells vs m valid agree = (
     λ a.
         ⊎_elim (λ y. y)
-        (λ n. absurd ((direct-met ks m t).0 a l lb h hb n (value_in ks vs m agree t.low lb) (value_in ks vs m agree t.high hb)))
+        (λ n. absurd ((direct_met ks m t).0 a l lb h hb n (value_in ks vs m agree t.low lb) (value_in ks vs m agree t.high hb)))
         (cases_Bool (allows t l h)),
-    λ y. (direct-met ks m t).1
+    λ y. (direct_met ks m t).1
         (λ i b j d n e f.
         both_ways (allows t i j) n
         (subst₂ (λ x z. allows t x z ≡ true) (in_value ks vs m agree t.low i b e) (in_value ks vs m agree t.high j d f) y)),
@@ -203,9 +203,9 @@ module _ (ks : List ℕ) (t : Table) (low-point : t.low < length ks) (high-point
   half_tells : (s : Side) → Tells ks t (half ks s t)
   half_tells s vs m valid agree = (
     λ a.
-        let r = (half-met ks m s t).0 a (v (near s t)) nb (value_in ks vs m agree (near s t) nb) in
+        let r = (half_met ks m s t).0 a (v (near s t)) nb (value_in ks vs m agree (near s t) nb) in
         sym (pair_partners s v) ∙ ap (partner s t (v (near s t))) (in_value ks vs m agree (far s t) r.0 r.1 r.3) ∙ r.2,
-    λ y. (half-met ks m s t).1
+    λ y. (half_met ks m s t).1
         (λ i b e. (
           v (far s t),
           fb,

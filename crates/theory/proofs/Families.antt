@@ -70,10 +70,10 @@ module _ (ks : List ℕ) (F : ℕ → ℕ → Bool) where
       says_out p j l k e ((rest (is_out (number ks p i)) (inl refl) (λ d. omega arith)).1 p i (omega arith) (opposite_out (number ks p i)) j k (λ d. omega arith))
   by_not_both l p i j h k (inr (inr x)) rest = absurd x
 
-  by-support :
+  by_support :
       (l p q : ℕ) (J : ℕ → ℕ → Bool) (i : ℕ) → i < count ks p → Linked ks F p q J → Linked ks F q p (λ a b. J b a) →
       (l ∈ (support_for ks p q (J i) i)) → Rest l (support_for ks p q (J i) i) → Says ks F l
-  by-support l p q J i h up down (inl e) rest = says_out p i l h e (refuted (F p i) no_partner)
+  by_support l p q J i h up down (inl e) rest = says_out p i l h e (refuted (F p i) no_partner)
     where
       no_partner : F p i ≡ true → ⊥
       no_partner t =
@@ -83,7 +83,7 @@ module _ (ks : List ℕ) (F : ℕ → ℕ → Bool) where
           (inr (map_in (λ j. is_in (number ks q j)) (filter (J i) (values ks q)) r.0 (kept_in (J i) (values ks q) r.0 r.2 (upto_in (count ks q) r.0 r.1))))
           (λ d. omega arith)).0 q r.0 r.1 (opposite_in (number ks q r.0)))
           r.3
-  by-support l p q J i h up down (inr m) rest = says_in q w.0 l (in_upto (count ks q) w.0 k.0) w.2 (λ u hu ne. refuted (F q u) (no_other u hu ne))
+  by_support l p q J i h up down (inr m) rest = says_in q w.0 l (in_upto (count ks q) w.0 k.0) w.2 (λ u hu ne. refuted (F q u) (no_other u hu ne))
     where
       w : (x : ℕ) × (x ∈ (filter (J i) (values ks q))) × (l ≡ is_in (number ks q x))
       w = in_map (λ j. is_in (number ks q j)) (filter (J i) (values ks q)) l m
@@ -128,14 +128,14 @@ module _ (net : Network) (ds : List ℕ) where
     by_form : (l : ℕ) (c : List ℕ) → Form net c → l ∈ c → Rest ks F l c → Says ks F l
     by_form l c (one f) il rest = by_one l c f il rest
     by_form l c (support Lower t it i h) il rest =
-        by-support ks F l t.low t.high (partner Lower t) i h (fam.partnered t it Lower) (fam.partnered t it Higher) il rest
+        by_support ks F l t.low t.high (partner Lower t) i h (fam.partnered t it Lower) (fam.partnered t it Higher) il rest
     by_form l c (support Higher t it i h) il rest =
-        by-support ks F l t.high t.low (partner Higher t) i h (fam.partnered t it Higher) (fam.partnered t it Lower) il rest
+        by_support ks F l t.high t.low (partner Higher t) i h (fam.partnered t it Higher) (fam.partnered t it Lower) il rest
 
     says : (l : ℕ) → Reached book ds l → Says ks F l
     says l (decided h) = (
-      λ p i k e. refuted (F p i) (λ t. (fam.permitted p i k t).not-barred (subst (λ x. x ∈ ds) e h)),
-      λ p i k e j u ne. refuted (F p j) (λ t. (fam.permitted p j u t).no-other-chosen i k (λ d. ne (sym d)) (subst (λ x. x ∈ ds) e h)),
+      λ p i k e. refuted (F p i) (λ t. (fam.permitted p i k t).not_barred (subst (λ x. x ∈ ds) e h)),
+      λ p i k e j u ne. refuted (F p j) (λ t. (fam.permitted p j u t).no_other_chosen i k (λ d. ne (sym d)) (subst (λ x. x ∈ ds) e h)),
     )
     says l (forced c ic il others) = by_form l c (form_of net c ic) il (λ m im ne. says (opposite m) (others m im ne))
 
@@ -199,10 +199,10 @@ module _ (net : Network) (ds : List ℕ) where
           others m (inr (inr x)) d = absurd x
 
   -- a value that is not out has a partner that is not out
-  live-partnered :
+  live_partnered :
       (t : Table) → t ∈ net.tables → (s : Side) (i : ℕ) → i < count ks (near s t) → live (near s t) i ≡ true →
       (j : ℕ) × (j < count ks (far s t)) × (partner s t i j ≡ true) × (live (far s t) j ≡ true)
-  live-partnered t it s i h f = ⊎_elim found none (some_or_none (live (far s t)) (filter (partner s t i) (values ks (far s t))))
+  live_partnered t it s i h f = ⊎_elim found none (some_or_none (live (far s t)) (filter (partner s t i) (values ks (far s t))))
     where
       found :
           (x : ℕ) × (x ∈ filter (partner s t i) (values ks (far s t))) × (live (far s t) x ≡ true) →
@@ -229,7 +229,7 @@ module _ (net : Network) (ds : List ℕ) where
           not_barred = λ d. live_not_out p i t (decided d);
           no_other_chosen = λ j k ne d. live_not_out p i t (out_by_other p i j h k ne (decided d));
         };
-        partnered = live-partnered;
+        partnered = live_partnered;
       }
 
 pub strikes_exactly : StrikesExactly Support

@@ -59,19 +59,19 @@ first_in_lem (false ∷ bs) zero h = absurd (false≢true h)
 first_in_lem (false ∷ bs) (suc i) h = let r = first_in_lem bs i h in (omega arith, ap (λ n. get_or (false ∷ bs) n false) (add-one (first_in bs)) ∙ r.1)
 
 -- where some value of a point is in, the layout has one that is in and that stands no later
-pub layout-in :
+pub layout_in :
     (ks : List ℕ) (m : List Bool) (p i : ℕ) → i < count ks p → HasIn ks m p i →
     (get_or (layout_of ks m) p 0 ≤ i) × HasIn ks m p (get_or (layout_of ks m) p 0)
-layout-in [] m p i b h = absurd (omega arith)
-layout-in (k ∷ ks) m zero i b h =
+layout_in [] m p i b h = absurd (omega arith)
+layout_in (k ∷ ks) m zero i b h =
     let at : (n : ℕ) → n < k → get_or (take k m) n false ≡ get_or m (0 + n) false =
     λ n l. get_or-take k m n false l ∙ ap (λ x. get_or m x false) (sym (zero-add n)) in
     let r = first_in_lem (take k m) i (at i b ∙ h) in
     (r.0, sym (at (first_in (take k m)) (omega (arith, r.0))) ∙ r.1)
-layout-in (k ∷ ks) m (suc p) i b h =
+layout_in (k ∷ ks) m (suc p) i b h =
     let at : (n : ℕ) → get_or (drop k m) (offset ks p + n) false ≡ get_or m (k + offset ks p + n) false =
     λ n. get_or-drop k m (offset ks p + n) false ∙ ap (λ x. get_or m x false) (sym (add_assoc k (offset ks p) n)) in
-    let r = layout-in ks (drop k m) p i b (at i ∙ h) in
+    let r = layout_in ks (drop k m) p i b (at i ∙ h) in
     (r.0, sym (at (get_or (layout_of ks (drop k m)) p 0)) ∙ r.1)
 
 module _ (ks vs : List ℕ) (m : List Bool) (agree : Agree ks vs m) where
@@ -101,7 +101,7 @@ layout_back ks vs h valid = ext_get_or 0 (layout_of ks (marking_of ks vs)) vs (l
     same p b =
         let agree = marking_agrees ks vs h in
         let v = valid p (omega (arith, length_layout ks (marking_of ks vs))) in
-        let r = layout-in ks (marking_of ks vs) p (get_or vs p 0) v (value_in ks vs (marking_of ks vs) agree p v) in
+        let r = layout_in ks (marking_of ks vs) p (get_or vs p 0) v (value_in ks vs (marking_of ks vs) agree p v) in
         sym (in_value ks vs (marking_of ks vs) agree p (get_or (layout_of ks (marking_of ks vs)) p 0) (omega arith) r.1)
 
 module _ (ks : List ℕ) (m : List Bool) (one : OneIn ks m) where
@@ -109,7 +109,7 @@ module _ (ks : List ℕ) (m : List Bool) (one : OneIn ks m) where
   layout_one : (p : ℕ) → p < length ks → (get_or (layout_of ks m) p 0 < count ks p) × HasIn ks m p (get_or (layout_of ks m) p 0)
   layout_one p b =
       let s = one.some p b in
-      let r = layout-in ks m p s.0 s.1 s.2 in
+      let r = layout_in ks m p s.0 s.1 s.2 in
       (omega (arith, s.1, r.0), r.1)
 
   pub layout_valid : Valid ks (layout_of ks m)

@@ -160,19 +160,19 @@ module _ (cs : List (List ℕ)) (n : ℕ) (ds : List ℕ) where
         (complete cs ds (reached_set cs n ds) shut (λ m i. grows cs (2 * n) (range_with_len 0 (2 * n)) ds m i) l r)
 
 -- a set that holds the decisions and is closed holds what has a derivation: for a set that is a family of types
-pub reached-least :
+pub reached_least :
     (P : ℕ → Type 0) {cs : List (List ℕ)} {ds : List ℕ} → ((l : ℕ) → l ∈ ds → P l) →
     ((c : List ℕ) → c ∈ cs → (l : ℕ) → l ∈ c → ((m : ℕ) → m ∈ c → (m ≡ l → ⊥) → P (opposite m)) → P l) →
     (l : ℕ) → Reached cs ds l → P l
-reached-least P f g l (decided h) = f l h
-reached-least P f g l (forced c ic il others) = g c ic l il (λ m im ne. reached-least P f g (opposite m) (others m im ne))
+reached_least P f g l (decided h) = f l h
+reached_least P f g l (forced c ic il others) = g c ic l il (λ m im ne. reached_least P f g (opposite m) (others m im ne))
 
 pub rounds_suffice : (n : ℕ) → RoundsSuffice n (2 * n)
 rounds_suffice n cs ds below =
     record {
       holds_all = set_decided cs n ds;
       closed = λ c ic l il f. reached_set_lem cs n ds below l (forced c ic il (λ m im ne. set_reached cs n ds (opposite m) (f m im ne)));
-      smallest = λ T h cl l t. reached-least (λ m. T m ≡ true) h cl l (set_reached cs n ds l t);
+      smallest = λ T h cl l t. reached_least (λ m. T m ≡ true) h cl l (set_reached cs n ds l t);
     }
 
 opposed_from : (s ls : List ℕ) → opposed s ls ≡ true → (l : ℕ) × (l ∈ ls) × (opposite l ∈ s)

@@ -15,7 +15,7 @@ use Rattle.theory.specs.Families.{Obeys}
 use Rattle.theory.specs.Laws.{DecisionsWithin, NeverMarked, MakesTheSolution}
 use Rattle.theory.proofs.Members.{some_or_none}
 use Rattle.theory.proofs.Numbering.{find_place, number_below, opposite_in, opposite_out}
-use Rattle.theory.proofs.Reaching.{set_reached, set_decided, reached-least, rounds_suffice, clash_from}
+use Rattle.theory.proofs.Reaching.{set_reached, set_decided, reached_least, rounds_suffice, clash_from}
 use Rattle.theory.proofs.Marking.{mark_in_lem, mark_out, in_mark, not_open, out_not_in}
 use Rattle.theory.proofs.Markings.{Agree, marking_agrees}
 use Rattle.theory.proofs.Encoded.{holds_in, holds_out}
@@ -57,20 +57,20 @@ module _ (net : Network) (cs : List (List ℕ)) (ds vs : List ℕ) where
         holds_in m n ∙ ap (λ x. get_or m x false) w.4 ∙ agree w.0 w.1 w.3 ∙ eq-eqb (get_or vs w.0 0) w.1 v
     meets_decision l (says_out n) i =
         let w = find_place net.counts n (omega (arith, within (is_out n) i)) in
-        let v = obeys.has-no-barred w.0 w.1 w.3 (subst (λ x. is_out x ∈ ds) w.4 i) in
+        let v = obeys.has_no_barred w.0 w.1 w.3 (subst (λ x. is_out x ∈ ds) w.4 i) in
         holds_out m n ∙
         not_from_false (get_or m n false) (ap (λ x. get_or m x false) w.4 ∙ agree w.0 w.1 w.3 ∙ ne_eqb (get_or vs w.0 0) w.1 v)
 
     -- it meets a clause, so it meets the one literal whose others it refutes
     meets_forced : (c : List ℕ) → c ∈ cs → (l : ℕ) → l ∈ c → ((o : ℕ) → o ∈ c → (o ≡ l → ⊥) → holds m (opposite o) ≡ true) → holds m l ≡ true
     meets_forced c ic l il others =
-        let met = (f.to-model vs sol).meets c ic in
+        let met = (f.to_model vs sol).meets c ic in
         ⊎_elim (λ e. ap (holds m) (sym e) ∙ met.2) (λ ne. absurd (not_both_lem m met.0 (says met.0) met.2 (others met.0 met.1 ne)))
         (cases_eq met.0 l)
 
     meets_reached : (l : ℕ) → has (reached_set cs (total net.counts) ds) l ≡ true → holds m l ≡ true
     meets_reached l t =
-        reached-least (λ x. holds m x ≡ true) (λ x. meets_decision x (says x)) meets_forced l (set_reached cs (total net.counts) ds l t)
+        reached_least (λ x. holds m x ≡ true) (λ x. meets_decision x (says x)) meets_forced l (set_reached cs (total net.counts) ds l t)
 
     unclashed : clashed cs (total net.counts) ds ≡ false
     unclashed = ⊎_elim
@@ -133,21 +133,21 @@ module _ (net : Network) (cs : List (List ℕ)) (ds : List ℕ) (f : Faithful ne
   layout = layout_of net.counts ins
 
   sol : Solution net layout
-  sol = f.to-solution ins ins_model
+  sol = f.to_solution ins ins_model
 
   ins_agree : Agree net.counts layout ins
-  ins_agree p i h = ap (λ x. get_or x (number net.counts p i) false) (sym (f.back-and-there ins ins_model)) ∙ marking_agrees net.counts layout sol.one_each p i h
+  ins_agree p i h = ap (λ x. get_or x (number net.counts p i) false) (sym (f.back_and_there ins ins_model)) ∙ marking_agrees net.counts layout sol.one_each p i h
 
   -- a value is reached in exactly when the layout has it
   is_value : (p i : ℕ) → i < count net.counts p → has s (is_in (number net.counts p i)) ≡ eqb (get_or layout p 0) i
   is_value p i h = sym (ins_at (number net.counts p i) (number_below net.counts p i h)) ∙ ins_agree p i h
 
-  pub in-values-solve :
+  pub in_values_solve :
       (vs : List ℕ) × Solution net vs × Obeys net.counts ds vs ×
       ((p i : ℕ) → i < count net.counts p →
       (get_or vs p 0 ≡ i → mark cs (total net.counts) ds (number net.counts p i) ≡ In) ×
       (mark cs (total net.counts) ds (number net.counts p i) ≡ In → get_or vs p 0 ≡ i))
-  in-values-solve = (
+  in_values_solve = (
     layout,
     sol,
     record {
@@ -164,4 +164,4 @@ module _ (net : Network) (cs : List (List ℕ)) (ds : List ℕ) (f : Faithful ne
   )
 
 pub makes_the_solution_in : MakesTheSolution In
-makes_the_solution_in = in-values-solve
+makes_the_solution_in = in_values_solve

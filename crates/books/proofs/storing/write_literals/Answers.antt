@@ -1,7 +1,7 @@
 use Rattle.std.proofs.Common.{◌≡◌, ◌+◌, ◌<◌, ◌≤◌, [], ◌++◌, length, get_or, take, drop, sym, refl, ap, ◌∙◌, arith}
 use Rattle.std.proofs.lemmas.List.{append-nil, append_assoc, take-append-drop, take_all, length-append, length-take-le}
 use Rattle.books.specs.Stored.{row}
-use Rattle.books.proofs.Filling.{part-more, row_more, fits_row}
+use Rattle.books.proofs.Filling.{part_more, row_more, fits_row}
 use Rattle.books.proofs.storing.write_literals.Goals as goal
 
 pub loop-i-init : goal.loop-i-init
@@ -36,7 +36,7 @@ loop-i-preserved g c =
     let n : length front ≡ p =
     omega (arith, length-append (take (length cs + 1) ws) (row (take i cs)), length-take-le (length cs + 1) ws (omega (arith, c.requires)), c.loop-i.invariant.0) in (
       omega (arith, c.loop-i.invariant.0, c.length-place.ensures, ap length more, length-append (row (take i cs)) cl),
-      part-more front cl ws c.loop-i.words c.write-clause.new.words p n c.loop-i.invariant.1 c.write-clause.ensures ∙
+      part_more front cl ws c.loop-i.words c.write-clause.new.words p n c.loop-i.invariant.1 c.write-clause.ensures ∙
           ap (λ t. t ++ drop (p + length cl) ws) (append_assoc (take (length cs + 1) ws) (row (take i cs)) cl ∙ ap (λ t. take (length cs + 1) ws ++ t) (sym more)) ∙
           ap (λ k. (take (length cs + 1) ws ++ row (take (i + 1) cs)) ++ drop (p + k) ws) (sym c.length-place.ensures),
     )

@@ -4,7 +4,7 @@ use Rattle.std.proofs.lemmas.Result.{err_from_is_err_and}
 use Rattle.books.specs.Stored.{row}
 use Rattle.books.proofs.Filling.{row_more}
 use Rattle.clause_store.specs.Fitness.{FitClause, Fit}
-use Rattle.clause_store.proofs.Gathering.{start-more, unfit_by}
+use Rattle.clause_store.proofs.Gathering.{start_more, unfit_by}
 use Rattle.clause_store.proofs.gather.gather.Goals as goal
 
 pub returns-in-err-read-clause : goal.returns-in-err-read-clause
@@ -32,7 +32,7 @@ loop-i-preserved g c =
     let literals = vec_items c.read-clause.new.literals in
     let done : literals ≡ row (take (i + 1) cs) = r.row ∙ ap (λ x. x ++ get_or cs i []) c.loop-i.invariant.0 ∙ sym (row_more cs i lt) in
     let n : c.len.result ≡ length (row (take (i + 1) cs)) = c.len.ensures ∙ c.read-clause.new.literals.ok.0 ∙ ap length done in
-    let m = start-more (λ k. length (row (take k cs))) (vec_items c.loop-i.starts) (vec_items c.push-in-loop-i.new.self) (i + 1) c.len.result c.loop-i.invariant.1 c.loop-i.invariant.2 c.in-ok-push-2.ensures.items n in
+    let m = start_more (λ k. length (row (take k cs))) (vec_items c.loop-i.starts) (vec_items c.push-in-loop-i.new.self) (i + 1) c.len.result c.loop-i.invariant.1 c.loop-i.invariant.2 c.in-ok-push-2.ensures.items n in
     (done, m.0, m.1, below_more (λ k. FitClause c.args.values (get_or cs k [])) i c.loop-i.invariant.3 r.fit)
 
 pub returns : goal.returns

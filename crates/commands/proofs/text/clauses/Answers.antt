@@ -2,12 +2,12 @@ use Rattle.std.proofs.Common.{◌≡◌, ◌++◌, map, length, take, vec_items,
 use Rattle.std.specs.List.{flat_map}
 use Rattle.std.proofs.lemmas.List.{append_assoc, take_all, length-map}
 use Rattle.commands.specs.Texts.{clause_text}
-use Rattle.commands.proofs.Joining.{piece-more, joined_map}
+use Rattle.commands.proofs.Joining.{piece_more, joined_map}
 use Rattle.commands.proofs.text.clauses.Goals as goal
 
 pub loop-clause-preserved : goal.loop-clause-preserved
 loop-clause-preserved c =
-    piece-more (λ v. clause_text (vec_items v)) (decimal (length c.args.clauses.now) ++ codes "\n") c.args.clauses.now c.loop-clause.clause-index
+    piece_more (λ v. clause_text (vec_items v)) (decimal (length c.args.clauses.now) ++ codes "\n") c.args.clauses.now c.loop-clause.clause-index
     c.clause-item.result (string_bytes c.loop-clause.out) (string_bytes c.push-clause.new.out) c.loop-clause-test.true c.clause-item.is c.loop-clause.invariant
     (c.in-ok-push-clause.ensures ∙ ap (λ t. string_bytes c.loop-clause.out ++ clause_text t) c.deref.ensures.value)
 

@@ -1,5 +1,5 @@
 use Rattle.std.proofs.Common.{◌≡◌, ◌<◌, length, vec_items, refl, arith}
-use Rattle.netfile.proofs.Tabling.{tables-allow, allow_none}
+use Rattle.netfile.proofs.Tabling.{tables_allow, allow_none}
 use Rattle.netfile.proofs.draft.allow_last.Goals as goal
 
 pub returns-then-n-eq0 : goal.returns-then-n-eq0
@@ -7,5 +7,5 @@ returns-then-n-eq0 c = allow_none (vec_items c.args.tables.now) c.args.low c.arg
 
 pub returns : goal.returns
 returns c =
-    tables-allow (vec_items c.args.tables.now) _ c.index-mut.result.now c.allow.new.self c.args.low c.args.high c.len-n.result
+    tables_allow (vec_items c.args.tables.now) _ c.index-mut.result.now c.allow.new.self c.args.low c.args.high c.len-n.result
     (omega arith) (omega (arith, c.len-n.ensures, c.args.tables.now.ok.0)) c.index-mut.ensures.value refl c.allow.ensures

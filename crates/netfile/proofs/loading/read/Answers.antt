@@ -10,7 +10,7 @@ use Rattle.netfile.specs.declared.loading.ReadError.TheVariants.{Refused, OutOfM
 use Rattle.netfile.specs.Reading.{contents, read_file}
 use Rattle.netfile.specs.Outcomes.{Drafts, Reads}
 use Rattle.netfile.specs.Drafts.{state_of}
-use Rattle.netfile.proofs.Accepting.{accepts_exactly, bytes_typed, accepted-within}
+use Rattle.netfile.proofs.Accepting.{accepts_exactly, bytes_typed, accepted_within}
 use Rattle.netfile.proofs.Faults.{first_fault_decides}
 use Rattle.netfile.proofs.loading.read.Goals as goal
 
@@ -31,7 +31,7 @@ returns-in-err-draft c =
 pub finish-requires : goal.finish-requires
 finish-requires c =
     let d = c.in-ok-draft.draft in
-    let w = accepted-within c.args.file.now (contents (state_of d)) (bytes_typed c.args.file.now (λ i. omega (arith, c.type-inv.file i))) c.in-ok-draft.ensures in
+    let w = accepted_within c.args.file.now (contents (state_of d)) (bytes_typed c.args.file.now (λ i. omega (arith, c.type-inv.file i))) c.in-ok-draft.ensures in
     record {
       points = omega (arith, w.0, length-map (vec_items d.points) entry_of, d.points.ok.0);
       few = omega (arith, w.1, length-map (vec_items d.tables) table_of, d.tables.ok.0);

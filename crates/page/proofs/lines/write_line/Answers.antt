@@ -4,7 +4,7 @@ use Rattle.session.specs.declared.session.Session.{Session}
 use Rattle.session.specs.Sessions.{state_of}
 use Rattle.page.specs.Pages.{signs_text, line_text}
 use Rattle.page.specs.Writing.{Placed}
-use Rattle.page.proofs.Joining.{placed-both}
+use Rattle.page.proofs.Joining.{placed_both}
 use Rattle.page.proofs.Lengths.{length_signs, point_there, label_there, values_there, length_line}
 use Rattle.page.proofs.lines.write_line.Goals as goal
 
@@ -48,8 +48,8 @@ returns c =
     let signs = signs_text (state_of s) c.args.point in
     let label = c.label.ensures ∙ label_there s _ _ _ c.points.ensures (point_there s _ _ c.points.ensures c.requires.there) c.index-points-point.is in
     let room = fits s _ _ _ _ _ _ c.requires.there c.points.ensures c.index-points-point.is c.label.ensures c.requires.room in
-    let third = placed-both signs (codes "\n") _ _ _ _ _ _ (omega arith) c.write-signs-at.ensures c.write-bytes.ensures in
-    let second = placed-both (codes " ") (signs ++ codes "\n") _ _ _ _ _ _ (omega arith) c.write-bytes-at-2.ensures third in
-    let first = placed-both c.label.result (codes " " ++ (signs ++ codes "\n")) _ _ _ _ _ _ (omega arith) c.write-bytes-at.ensures second in
+    let third = placed_both signs (codes "\n") _ _ _ _ _ _ (omega arith) c.write-signs-at.ensures c.write-bytes.ensures in
+    let second = placed_both (codes " ") (signs ++ codes "\n") _ _ _ _ _ _ (omega arith) c.write-bytes-at-2.ensures third in
+    let first = placed_both c.label.result (codes " " ++ (signs ++ codes "\n")) _ _ _ _ _ _ (omega arith) c.write-bytes-at.ensures second in
     let P : List ℕ → Type 0 = λ t. Placed (t ++ (codes " " ++ (signs ++ codes "\n"))) c.args.at c.args.out.now c.write-bytes.new.out c.write-bytes.result in
     subst P label first

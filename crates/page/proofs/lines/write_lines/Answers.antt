@@ -6,7 +6,7 @@ use Rattle.session.specs.Sessions.{state_of}
 use Rattle.session.proofs.Finding.{many_points}
 use Rattle.page.specs.Pages.{line_text}
 use Rattle.page.specs.Writing.{Placed}
-use Rattle.page.proofs.Joining.{placed-both}
+use Rattle.page.proofs.Joining.{placed_both}
 use Rattle.page.proofs.Lengths.{joined_up, fits_joined}
 use Rattle.page.proofs.lines.write_lines.Goals as goal
 
@@ -28,7 +28,7 @@ loop-point-preserved c =
     let f = line_text (state_of c.args.session.now) in
     let i = c.loop-point.point in
     let P : List ℕ → Type 0 = λ t. Placed t 0 c.args.out.now c.write-line-at.new.out c.write-line-at.result in
-    subst P (sym (joined_up f i)) (placed-both (flat_map f (range_with_len 0 i)) (f i) _ _ _ 0 _ _ (omega arith) c.loop-point.invariant c.write-line-at.ensures)
+    subst P (sym (joined_up f i)) (placed_both (flat_map f (range_with_len 0 i)) (f i) _ _ _ 0 _ _ (omega arith) c.loop-point.invariant c.write-line-at.ensures)
 
 pub returns : goal.returns
 returns c =

@@ -8,7 +8,7 @@ use Rattle.calls.specs.Replies.{checked, mark_reply}
 use Rattle.session.specs.Sessions.{state_of}
 use Rattle.page.specs.Pages.{sign_text}
 use Rattle.page.specs.Writing.{Placed}
-use Rattle.page.proofs.Joining.{placed-more, placed_none}
+use Rattle.page.proofs.Joining.{placed_more, placed_none}
 use Rattle.page.proofs.signs.write_signs.Goals as goal
 
 -- the answer to the question for a mark that is there
@@ -30,7 +30,7 @@ loop-v-preserved c =
     let next : at + v + 1 ≡ at + (v + 1) = omega arith in
     let text : map f (range_with_len 0 v) ++ c.sign.result ∷ [] ≡ map f (range_with_len 0 (v + 1)) =
     ap (λ x. map f (range_with_len 0 v) ++ x ∷ []) (c.sign.ensures ∙ ap sign_text is) ∙ sym (map-range_with_len_more f 0 v v (omega arith)) in
-    let done = placed-more _ old _ at (at + v) c.sign.result (omega (arith, c.requires.room)) (omega (arith, c.requires.room)) c.loop-v.invariant in
+    let done = placed_more _ old _ at (at + v) c.sign.result (omega (arith, c.requires.room)) (omega (arith, c.requires.room)) c.loop-v.invariant in
     let P : ℕ → Type 0 = λ n. Placed (map f (range_with_len 0 (v + 1))) at old (set c.loop-v.out (at + v) c.sign.result) n in
     let Q : List ℕ → Type 0 = λ t. Placed t at old (set c.loop-v.out (at + v) c.sign.result) (at + v + 1) in
     subst P next (subst Q text done)

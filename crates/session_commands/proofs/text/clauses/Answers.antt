@@ -2,7 +2,7 @@ use Rattle.std.proofs.Common.{◌≡◌, ◌<◌, [], ◌++◌, length, get_or, 
 use Rattle.std.specs.List.{flat_map}
 use Rattle.std.proofs.lemmas.List.{append_assoc, append-nil, take_all, get_or_default}
 use Rattle.session_commands.specs.Texts.{clause_text}
-use Rattle.session_commands.proofs.Joining.{piece-more}
+use Rattle.session_commands.proofs.Joining.{piece_more}
 use Rattle.session_commands.proofs.text.clauses.Goals as goal
 
 pub loop-i-preserved : goal.loop-i-preserved
@@ -10,7 +10,7 @@ loop-i-preserved g c =
     let cs = g.B.ClauseBook.clauses c.args.book.now in
     let i = c.loop-i.i in
     let lt : i < length cs = omega (arith, c.count-count.ensures, c.loop-i-test.true) in
-    piece-more clause_text (decimal (length cs) ++ codes "\n") cs i (get_or cs i []) (string_bytes c.loop-i.out) (string_bytes c.push-clause.new.out) lt
+    piece_more clause_text (decimal (length cs) ++ codes "\n") cs i (get_or cs i []) (string_bytes c.loop-i.out) (string_bytes c.push-clause.new.out) lt
     (get_or_default cs i [] (get_or cs i []) lt) c.loop-i.invariant c.in-ok-push-clause.ensures
 
 pub returns : goal.returns

@@ -1,7 +1,7 @@
 use Rattle.std.proofs.Common.{◌≡◌, ◌+◌, ◌-◌, ◌<◌, ◌≤◌, [], ◌++◌, length, get_or, take, drop, string_bytes, codes, decimal, sym, refl, ap, ◌∙◌, arith}
 use Rattle.std.proofs.lemmas.List.{append_assoc, take_all, get_or_default, get_or-drop, length-drop}
 use Rattle.session_commands.specs.Texts.{spaced}
-use Rattle.session_commands.proofs.Joining.{piece-more}
+use Rattle.session_commands.proofs.Joining.{piece_more}
 use Rattle.session_commands.proofs.text.push_others.Goals as goal
 
 pub loop-j-preserved : goal.loop-j-preserved
@@ -16,7 +16,7 @@ loop-j-preserved g c =
     let next : j - 1 + 1 ≡ j + 1 - 1 = omega arith in
     let is : x ≡ get_or (drop 1 cl) (j - 1) x =
     c.literal.ensures ∙ get_or_default cl j 0 x lt ∙ ap (λ k. get_or cl k x) (sym same) ∙ sym (get_or-drop 1 cl (j - 1) x) in
-    piece-more (λ l. codes " " ++ decimal l) (string_bytes c.args.out.now) (drop 1 cl) (j - 1) x was (string_bytes c.push-number.new.out)
+    piece_more (λ l. codes " " ++ decimal l) (string_bytes c.args.out.now) (drop 1 cl) (j - 1) x was (string_bytes c.push-number.new.out)
     (omega (arith, length-drop 1 cl)) is c.loop-j.invariant
     (c.in-ok-push-number.ensures ∙ ap (λ t. t ++ decimal x) c.in-ok-push-str.ensures.bytes ∙ append_assoc was (codes " ") (decimal x)) ∙
     ap (λ k. string_bytes c.args.out.now ++ spaced (take k (drop 1 cl))) next

@@ -23,14 +23,14 @@ half_same : (ps qs : PointList) (s u : Side) (t v : Table) → ps ≡ qs → s �
 half_same ps qs s u t v a b d = λ k. half (counts_of (a k)) (b k) (table_of (d k))
 
 -- two stored halves of a table that is there
-both-halved :
+both_halved :
     (net : Network) (k : ℕ) (cs ds : List (List ℕ)) (low low' high high' : List ℕ) (r : Result (ℕ × ℕ) WordsRefusal) →
     k < length net.tables → cs ≡ half_at net Lower k → ds ≡ half_at net Higher k → StoresBoth cs ds low low' high high' r → Halved net k low low' high high' r
-both-halved net k cs ds low low' high high' (Ok x) h a b s = (h, subst₂ (λ x₁ x₂. StoresBoth x₁ x₂ low low' high high' (Ok x)) a b s)
-both-halved net k cs ds low low' high high' (Err (TooFewWords n)) h a b s =
+both_halved net k cs ds low low' high high' (Ok x) h a b s = (h, subst₂ (λ x₁ x₂. StoresBoth x₁ x₂ low low' high high' (Ok x)) a b s)
+both_halved net k cs ds low low' high high' (Err (TooFewWords n)) h a b s =
     (h, subst₂ (λ x₁ x₂. StoresBoth x₁ x₂ low low' high high' (Err (TooFewWords n))) a b s)
-both-halved net k cs ds low low' high high' (Err NoSuch) h a b s = absurd s
-both-halved net k cs ds low low' high high' (Err NotStored) h a b s = absurd s
+both_halved net k cs ds low low' high high' (Err NoSuch) h a b s = absurd s
+both_halved net k cs ds low low' high high' (Err NotStored) h a b s = absurd s
 
 pub store-both-requires : goal.store-both-requires
 store-both-requires c =
@@ -57,7 +57,7 @@ returns-in-Some c =
     (c.new-lower.ensures.points ∙ c.points-points.ensures) c.new-lower.ensures.side c.new-lower.ensures.table ∙ sym (at Lower) in
     let high_is = half_same higher.points.now net.points higher.side Higher higher.table.now t
     (c.new-higher.ensures.points ∙ c.points-points.ensures) c.new-higher.ensures.side c.new-higher.ensures.table ∙ sym (at Higher) in
-    both-halved (meaning net) k _ _ c.args.low.now c.store-both.new.low c.args.high.now c.store-both.new.high
+    both_halved (meaning net) k _ _ c.args.low.now c.store-both.new.low c.args.high.now c.store-both.new.high
     c.store-both.result lt low-is high_is c.store-both.ensures
 
 pub returns-in-None : goal.returns-in-None

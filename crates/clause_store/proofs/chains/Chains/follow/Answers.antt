@@ -1,7 +1,7 @@
 use Rattle.std.proofs.Common.{◌≡◌, ◌+◌, ◌-◌, ◌<◌, length, vec_items, subst, arith}
 use Rattle.std.proofs.lemmas.List.{get_or_read}
 use Rattle.clause_store.specs.Chains.{Follows}
-use Rattle.clause_store.proofs.Chaining.{OnTheWay, way-more, way_all}
+use Rattle.clause_store.proofs.Chaining.{OnTheWay, way_more, way_all}
 use Rattle.clause_store.proofs.chains.Chains.follow.Goals as goal
 
 pub loop-link-smaller : goal.loop-link-smaller
@@ -24,7 +24,7 @@ loop-link-preserved c =
     let h : k < length (vec_items links) = omega (arith, links.ok.0) in
     let e = get_or_read (vec_items links) k c.index-link-in-loop-link.result.now h c.index-link-in-loop-link.ensures 0 in (
       omega (arith, e, c.requires.before k (omega arith)),
-      way-more (vec_items links) owners start k c.index-link-in-loop-link.result.now before after (vec_items c.push.new.self)
+      way_more (vec_items links) owners start k c.index-link-in-loop-link.result.now before after (vec_items c.push.new.self)
           (subst (λ x. OnTheWay (vec_items links) owners start x before after) n c.loop-link.invariant.1) c.in-ok-push.ensures.items e,
     )
 

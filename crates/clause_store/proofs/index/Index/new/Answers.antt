@@ -1,5 +1,5 @@
 use Rattle.std.proofs.Common.{[], ◌∷◌, ◌++◌, length, vec_items, ap, ◌∙◌, arith}
-use Rattle.clause_store.proofs.Indexing.{indexed-more}
+use Rattle.clause_store.proofs.Indexing.{indexed_more}
 use Rattle.clause_store.proofs.index.Index.new.Goals as goal
 
 pub loop-literal-preserved : goal.loop-literal-preserved
@@ -12,6 +12,6 @@ loop-literal-preserved c =
     let firsts = vec_items c.loop-literal.firsts in
     let holders = c.follow.new.holders in
     let n = c.len.ensures ∙ holders.ok.0 in
-    indexed-more c.args.bound c.loop-literal.literal (length literals) literals heads links owners before firsts (vec_items holders) (vec_items c.push-in-loop-literal.new.self)
+    indexed_more c.args.bound c.loop-literal.literal (length literals) literals heads links owners before firsts (vec_items holders) (vec_items c.push-in-loop-literal.new.self)
     c.in-ok-chains.ensures c.requires.same (omega arith) c.loop-literal.invariant c.in-ok-follow.ensures
     (c.in-ok-push-2.ensures.items ∙ ap (λ x. firsts ++ x ∷ []) n)

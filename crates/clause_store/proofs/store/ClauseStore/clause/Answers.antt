@@ -1,6 +1,6 @@
 use Rattle.std.proofs.Common.{◌+◌, vec_items, arith, rules}
 use Rattle.std.proofs.lemmas.List.{get_or_read}
-use Rattle.clause_store.proofs.Laid.{next_start, clause-bounds}
+use Rattle.clause_store.proofs.Laid.{next_start, clause_bounds}
 use Rattle.clause_store.proofs.store.ClauseStore.clause.Goals as goal
 
 pub index-from-requires : goal.index-from-requires
@@ -13,16 +13,16 @@ pub index-to-requires : goal.index-to-requires
 index-to-requires c = omega (arith, next_start c.args.self.now c.args.i c.requires, c.args.self.now.starts.ok.0)
 
 pub offset-bounds-as-slice-from : goal.offset-bounds-as-slice-from
-offset-bounds-as-slice-from c = let h = clause-bounds c.args.self.now c.args.i _ _ c.requires c.index-from.ensures c.index-to.ensures in search rules
+offset-bounds-as-slice-from c = let h = clause_bounds c.args.self.now c.args.i _ _ c.requires c.index-from.ensures c.index-to.ensures in search rules
 
 pub slice-bounds-result-count : goal.slice-bounds-result-count
-slice-bounds-result-count c = let h = clause-bounds c.args.self.now c.args.i _ _ c.requires c.index-from.ensures c.index-to.ensures in omega arith
+slice-bounds-result-count c = let h = clause_bounds c.args.self.now c.args.i _ _ c.requires c.index-from.ensures c.index-to.ensures in omega arith
 
 pub slice-bounds-result-start : goal.slice-bounds-result-start
-slice-bounds-result-start c = let h = clause-bounds c.args.self.now c.args.i _ _ c.requires c.index-from.ensures c.index-to.ensures in search rules
+slice-bounds-result-start c = let h = clause_bounds c.args.self.now c.args.i _ _ c.requires c.index-from.ensures c.index-to.ensures in search rules
 
 pub slice-bounds-result-end : goal.slice-bounds-result-end
-slice-bounds-result-end c = let h = clause-bounds c.args.self.now c.args.i _ _ c.requires c.index-from.ensures c.index-to.ensures in search rules
+slice-bounds-result-end c = let h = clause_bounds c.args.self.now c.args.i _ _ c.requires c.index-from.ensures c.index-to.ensures in search rules
 
 pub returns : goal.returns
 returns c =

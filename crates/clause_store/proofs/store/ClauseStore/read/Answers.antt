@@ -1,7 +1,7 @@
 use Rattle.std.proofs.Common.{ℕ, ◌+◌, ◌-◌, ◌*◌, ◌<◌, ◌≤◌, List, length, get_or, vec_items, sym, refl, ap, ◌∙◌, subst, subst₂, arith}
 use Rattle.clause_store.specs.Chains.{Owned, Indexed}
 use Rattle.clause_store.proofs.Gathering.{parts_are}
-use Rattle.clause_store.proofs.Assembling.{starts_weak, starts_first, starts_last, literals_below, laid-out-from}
+use Rattle.clause_store.proofs.Assembling.{starts_weak, starts_first, starts_last, literals_below, laid_out_from}
 use Rattle.clause_store.proofs.store.ClauseStore.read.Goals as goal
 
 pub owners-requires : goal.owners-requires
@@ -46,7 +46,7 @@ invariant-of-result g c =
     let o : Owned starts (length starts - 1) owners = subst (λ (xs : List ℕ). Owned xs (length xs - 1) owners) c.deref.ensures.value c.in-ok-owners.ensures in
     let x : Indexed (2 * n) (length literals) literals owners holders firsts =
     subst₂ (λ (ls os : List ℕ). Indexed (2 * n) (length ls) ls os holders firsts) c.deref-2.ensures.value c.deref-3.ensures.value c.in-ok-holders.ensures in
-    (∣ laid-out-from n cs literals starts k.fit k.row k.many k.starts owners holders firsts o x ∣₁, tt)
+    (∣ laid_out_from n cs literals starts k.fit k.row k.many k.starts owners holders firsts o x ∣₁, tt)
 
 pub returns : goal.returns
 returns g c =

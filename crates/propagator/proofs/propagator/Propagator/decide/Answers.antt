@@ -7,7 +7,7 @@ use Rattle.trail.proofs.Truths.{open_mark}
 use Rattle.propagation.specs.Queue.{Done}
 use Rattle.propagation.proofs.Exactness.{done_pushed}
 use Rattle.propagator.specs.Standing.{Standing}
-use Rattle.propagator.proofs.Standings.{standing-decide}
+use Rattle.propagator.proofs.Standings.{standing_decide}
 use Rattle.propagator.proofs.Deciding.{same_reached_decided, same_clash_decided}
 use Rattle.propagator.proofs.Invariant.{standing_of, holds_of, mark_of_lem, room}
 use Rattle.propagator.proofs.propagator.Propagator.decide.Goals as goal
@@ -60,7 +60,7 @@ invariant-of-self c =
     let q = c.push.ensures.literals in
     let g = c.propagate-self.ensures.grew in
     let x = holds_of s c.requires.calm in
-    let k = standing-decide n cs t ds hs s.clashed (standing_of s) u w g.more l r q g.is c.requires.within x
+    let k = standing_decide n cs t ds hs s.clashed (standing_of s) u w g.more l r q g.is c.requires.within x
     (λ z m. c.propagate-self.ensures.exact z m ∙ same_reached_decided n cs (clauses_within s.store) ds t u l x q m)
     (c.propagate-self.ensures.answer ∙ same_clash_decided n cs (clauses_within s.store) ds t u l x q) in (
       s.sized ∙ sym (c.propagate-self.ensures.many ∙ c.push.ensures.values),

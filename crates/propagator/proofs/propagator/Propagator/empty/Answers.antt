@@ -1,6 +1,6 @@
 use Rattle.std.proofs.Common.{sym, ◌∙◌, arith}
-use Rattle.propagator.proofs.Standings.{standing-empty}
-use Rattle.propagator.proofs.Invariant.{same-state}
+use Rattle.propagator.proofs.Standings.{standing_empty}
+use Rattle.propagator.proofs.Invariant.{same_state}
 use Rattle.propagator.proofs.propagator.Propagator.empty.Goals as goal
 
 pub invariant-of-result : goal.invariant-of-result
@@ -9,9 +9,9 @@ invariant-of-result c =
       v ∙ sym c.empty-2.ensures.values,
       (
         (omega (arith, v), omega (arith, v)),
-        (∣ standing-empty _ _ _ _ _ v c.empty.ensures.clauses c.empty-2.ensures.literals c.new.ensures.items c.new-2.ensures.items ∣₁, tt),
+        (∣ standing_empty _ _ _ _ _ v c.empty.ensures.clauses c.empty-2.ensures.literals c.new.ensures.items c.new-2.ensures.items ∣₁, tt),
       ),
     )
 
 pub returns : goal.returns
-returns c = same-state _ _ _ _ _ _ c.empty.ensures.values c.empty.ensures.clauses c.new.ensures.items
+returns c = same_state _ _ _ _ _ _ c.empty.ensures.values c.empty.ensures.clauses c.new.ensures.items

@@ -7,7 +7,7 @@ use Rattle.trail.specs.Parts.{literals_of}
 use Rattle.trail.proofs.Invariant.{trail_apart}
 use Rattle.propagation.proofs.Exactness.{apart_calm}
 use Rattle.propagator.proofs.Standings.{back_within, back_holds, standing_back}
-use Rattle.propagator.proofs.Invariant.{same-state, standing_of}
+use Rattle.propagator.proofs.Invariant.{same_state, standing_of}
 use Rattle.propagator.proofs.propagator.Propagator.withdraw.Goals as goal
 
 pub cut-requires : goal.cut-requires
@@ -42,7 +42,7 @@ returns-in-None c =
     let n : length ds ≤ 0 = omega (arith, c.in-None.ensures.cases.0, (standing_of s).many, s.decisions.ok.0, s.heights.ok.0) in
     record {
       answer = sym (le-ltb 0 (length ds) n);
-      state = same-state _ _ _ _ _ _ refl refl (sym (take_all (length ds - 1) ds (omega (arith, n))));
+      state = same_state _ _ _ _ _ _ refl refl (sym (take_all (length ds - 1) ds (omega (arith, n))));
     }
 
 pub returns-in-Some : goal.returns-in-Some
@@ -51,5 +51,5 @@ returns-in-Some c =
     let ds = vec_items s.decisions in
     record {
       answer = sym (lt-ltb 0 (length ds) (omega (arith, c.in-Some.ensures.cases, (standing_of s).many, s.decisions.ok.0, s.heights.ok.0)));
-      state = same-state _ _ _ _ _ _ refl refl (c.pop-in-Some.ensures.rest ∙ ap (λ n. take (n - 1) ds) s.decisions.ok.0);
+      state = same_state _ _ _ _ _ _ refl refl (c.pop-in-Some.ensures.rest ∙ ap (λ n. take (n - 1) ds) s.decisions.ok.0);
     }
