@@ -1,4 +1,6 @@
 // Clause books: lists of clauses behind one interface.
+#![tactic(auto)]
+
 mod book;
 mod halves;
 mod refusal;

@@ -1,4 +1,6 @@
 // The calls of a session, their answers and refusals, and what is promised of a whole run of calls.
+#![tactic(auto)]
+
 mod call;
 mod refusal;
 

@@ -1,4 +1,6 @@
 // Clause stores: a list of clauses in one row of literals, with an index from each literal to the clauses that hold it.
+#![tactic(auto)]
+
 mod chains;
 mod error;
 mod gather;

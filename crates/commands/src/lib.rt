@@ -1,3 +1,5 @@
 // The commands of the program plan, and what is written in answer.
+#![tactic(auto)]
+
 pub mod command;
 pub mod text;

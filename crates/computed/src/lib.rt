@@ -1,4 +1,6 @@
 // Clause books that keep no clause and answer from a network's tables.
+#![tactic(auto)]
+
 mod book;
 mod direct;
 mod half;

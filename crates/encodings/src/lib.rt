@@ -1,4 +1,6 @@
 // The clauses of a network, in the three encodings.
+#![tactic(auto)]
+
 pub mod clause;
 mod encoder;
 mod exactly_one;

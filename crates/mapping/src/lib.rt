@@ -1,4 +1,6 @@
 // Maps: from the bytes of a network file to the page of its session, for programs in Rattle and in C.
+#![tactic(auto)]
+
 mod error;
 mod exported;
 mod mapping;

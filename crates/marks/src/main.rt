@@ -1,4 +1,6 @@
 // Reads a network file from standard input, opens it over its support clauses, and writes its page.
+#![tactic(auto)]
+
 use anyhow::anyhow;
 use commands::text;
 use mapping::MapError;

@@ -1,4 +1,6 @@
 // The network file: bytes to records, records to a network, and every refusal with its layer and its place.
+#![tactic(auto)]
+
 mod checks;
 mod cursor;
 mod draft;

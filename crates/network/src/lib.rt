@@ -1,4 +1,6 @@
 // Networks: points with their labels, tables of allowed pairs, value numbers; and the numbers of the refusals.
+#![tactic(auto)]
+
 mod network;
 pub mod numbering;
 mod point;

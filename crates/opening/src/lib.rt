@@ -1,4 +1,6 @@
 // Sessions over a network's own clauses.
+#![tactic(auto)]
+
 mod networks;
 
 pub use networks::open_network;

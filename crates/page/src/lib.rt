@@ -1,4 +1,6 @@
 // Pages: what a session shows as text, a line for each of its points.
+#![tactic(auto)]
+
 mod bytes;
 mod lines;
 mod refusal;

@@ -1,4 +1,6 @@
 // Reads a network file and answers questions about it, one a line.
+#![tactic(auto)]
+
 use anyhow::anyhow;
 use commands::command::Command;
 use commands::{command, text};

@@ -1,4 +1,6 @@
 // Runs of a session's calls, from its opening on, with the whole promise.
+#![tactic(auto)]
+
 mod caller;
 mod playing;
 

@@ -1,4 +1,6 @@
 // Reads a network file, opens a session over its clauses, and answers commands, one a line.
+#![tactic(auto)]
+
 mod options;
 mod terminal;
 

@@ -1,5 +1,7 @@
 // What the product's words mean: the definitions in specs/ and the laws between them.
 // The types are those that a meaning and a program share. Each function has a law as its contract, so that the check asks for the law's proof.
+#![tactic(auto)]
+
 pub mod models;
 pub mod propagation;
 

@@ -1,4 +1,6 @@
 // The worked example, one tip and one cable: as one theorem on the definitions, and as tests.
+#![tactic(auto)]
+
 mod examples;
 
 pub use examples::berm_file;

@@ -1,4 +1,6 @@
 // Writers of a network's clauses into words of the caller.
+#![tactic(auto)]
+
 mod halving;
 mod writing;
 
