@@ -36,8 +36,8 @@ fn score(literals: usize) -> usize
 
 // The sum of the scores of a book's clauses.
 pub fn score_sum<B: ClauseBook>(book: &B) -> usize
-    requires { length (clauses book.now) < 2 ^ 32 }
-    ensures { result ≡ scores (clauses book.now) }
+    requires { length (B.clauses book.now) < 2 ^ 32 }
+    ensures { result ≡ scores (B.clauses book.now) }
 {
     let mut sum = 0;
     for i in 0..book.count() {

@@ -6,8 +6,8 @@ use crate::{ClauseBook, WordsRefusal};
 
 // How many words a book needs: one, one a clause and one a literal.
 pub fn words_needed<B: ClauseBook>(book: &B) -> usize
-    requires { words_needed (clauses book.now) < 2 ^ 32 }
-    ensures { result ≡ words_needed (clauses book.now) }
+    requires { words_needed (B.clauses book.now) < 2 ^ 32 }
+    ensures { result ≡ words_needed (B.clauses book.now) }
 {
     let mut n = 1 + book.count();
     for i in 0..book.count() {
@@ -18,8 +18,8 @@ pub fn words_needed<B: ClauseBook>(book: &B) -> usize
 
 // Writes the literals of clause i from a place on.
 fn write_clause<B: ClauseBook>(book: &B, i: usize, words: &mut [u32], place: usize)
-    requires { place + length (slice_index_or (clauses book.now) i []) ≤ length words.old }
-    ensures { words.new ≡ (take place words.old ++ slice_index_or (clauses book.now) i []) ++ drop (place + length (slice_index_or (clauses book.now) i [])) words.old }
+    requires { place + length (slice_index_or (B.clauses book.now) i []) ≤ length words.old }
+    ensures { words.new ≡ (take place words.old ++ slice_index_or (B.clauses book.now) i []) ++ drop (place + length (slice_index_or (B.clauses book.now) i [])) words.old }
 {
     for j in 0..book.length(i) {
         words[place + j] = book.literal(i, j);
@@ -28,8 +28,8 @@ fn write_clause<B: ClauseBook>(book: &B, i: usize, words: &mut [u32], place: usi
 
 // Writes the literals of all clauses behind the ends.
 fn write_literals<B: ClauseBook>(book: &B, words: &mut [u32])
-    requires { words_needed (clauses book.now) ≤ length words.old }
-    ensures { words.new ≡ (take (length (clauses book.now) + 1) words.old ++ row (clauses book.now)) ++ drop (words_needed (clauses book.now)) words.old }
+    requires { words_needed (B.clauses book.now) ≤ length words.old }
+    ensures { words.new ≡ (take (length (B.clauses book.now) + 1) words.old ++ row (B.clauses book.now)) ++ drop (words_needed (B.clauses book.now)) words.old }
 {
     let mut place = book.count() + 1;
     for i in 0..book.count() {
@@ -40,9 +40,9 @@ fn write_literals<B: ClauseBook>(book: &B, words: &mut [u32])
 
 // Writes the clause count and where each clause ends.
 fn write_ends<B: ClauseBook>(book: &B, words: &mut [u32])
-    requires room { words_needed (clauses book.now) ≤ length words.old }
-    requires small { words_needed (clauses book.now) < 2 ^ 32 }
-    ensures { words.new ≡ (length (clauses book.now) ∷ ends_from (length (clauses book.now) + 1) (clauses book.now)) ++ drop (1 + length (clauses book.now)) words.old }
+    requires room { words_needed (B.clauses book.now) ≤ length words.old }
+    requires small { words_needed (B.clauses book.now) < 2 ^ 32 }
+    ensures { words.new ≡ (length (B.clauses book.now) ∷ ends_from (length (B.clauses book.now) + 1) (B.clauses book.now)) ++ drop (1 + length (B.clauses book.now)) words.old }
 {
     words[0] = book.count() as u32;
     let mut end = book.count() + 1;
@@ -54,9 +54,9 @@ fn write_ends<B: ClauseBook>(book: &B, words: &mut [u32])
 
 // Stores a book in the caller's words, and answers how many it took.
 pub fn store<B: ClauseBook>(book: &B, words: &mut [u32]) -> Result<usize, WordsRefusal>
-    requires { words_needed (clauses book.now) < 2 ^ 32 }
-    ensures answer { Stores (clauses book.now) words.old words.new result }
-    ensures book { OnOk result (Holds (clauses book.now) words.new) }
+    requires { words_needed (B.clauses book.now) < 2 ^ 32 }
+    ensures answer { Stores (B.clauses book.now) words.old words.new result }
+    ensures book { OnOk result (Holds (B.clauses book.now) words.new) }
 {
     let needed = words_needed(book);
     if words.len() < needed {
@@ -74,9 +74,9 @@ pub fn store_both<B: ClauseBook>(
     low: &mut [u32],
     high: &mut [u32],
 ) -> Result<(usize, usize), WordsRefusal>
-    requires one { words_needed (clauses first.now) < 2 ^ 32 }
-    requires other { words_needed (clauses second.now) < 2 ^ 32 }
-    ensures { StoresBoth (clauses first.now) (clauses second.now) low.old low.new high.old high.new result }
+    requires one { words_needed (B.clauses first.now) < 2 ^ 32 }
+    requires other { words_needed (B.clauses second.now) < 2 ^ 32 }
+    ensures { StoresBoth (B.clauses first.now) (B.clauses second.now) low.old low.new high.old high.new result }
 {
     let needed = words_needed(first);
     if low.len() < needed {

@@ -39,9 +39,9 @@ fn read_clause<B: ClauseBook>(
     i: usize,
     literals: &mut Vec<u32>,
 ) -> Result<(), OpenError>
-    ensures fit { OnOk result (FitClause values (slice_index_or (clauses book.now) i [])) }
-    ensures unfit { IfErr result (λ e. IfUnfit e (FitClause values (slice_index_or (clauses book.now) i []) → ⊥)) }
-    ensures row { OnOk result (literals.new.items ≡ literals.old.items ++ slice_index_or (clauses book.now) i []) }
+    ensures fit { OnOk result (FitClause values (slice_index_or (B.clauses book.now) i [])) }
+    ensures unfit { IfErr result (λ e. IfUnfit e (FitClause values (slice_index_or (B.clauses book.now) i []) → ⊥)) }
+    ensures row { OnOk result (literals.new.items ≡ literals.old.items ++ slice_index_or (B.clauses book.now) i []) }
 {
     let size = book.length(i);
     if size == 0 || size > MAX_LITERALS {
@@ -65,11 +65,11 @@ pub(crate) fn gather<B: ClauseBook>(
     book: &B,
     values: usize,
 ) -> Result<FlatClauses, OpenError>
-    ensures fit { OnOk result (Fit values (clauses book.now)) }
-    ensures unfit { IfErr result (λ e. IfUnfit e (Fit values (clauses book.now) → ⊥)) }
-    ensures row { IfOk result (λ p. p.literals.items ≡ row (clauses book.now)) }
-    ensures many { IfOk result (λ p. length p.starts.items ≡ length (clauses book.now) + 1) }
-    ensures starts { IfOk result (λ p. (k : ℕ) → k ≤ length (clauses book.now) → slice_index p.starts.items k ≡ length (row (take k (clauses book.now)))) }
+    ensures fit { OnOk result (Fit values (B.clauses book.now)) }
+    ensures unfit { IfErr result (λ e. IfUnfit e (Fit values (B.clauses book.now) → ⊥)) }
+    ensures row { IfOk result (λ p. p.literals.items ≡ row (B.clauses book.now)) }
+    ensures many { IfOk result (λ p. length p.starts.items ≡ length (B.clauses book.now) + 1) }
+    ensures starts { IfOk result (λ p. (k : ℕ) → k ≤ length (B.clauses book.now) → slice_index p.starts.items k ≡ length (row (take k (B.clauses book.now)))) }
 {
     let count = book.count();
     if count > MAX_CLAUSES {

@@ -19,7 +19,7 @@ pub fn play<B: ClauseBook, C: Caller>(
     book: &B,
     caller: &mut C,
 ) -> Result<(), OpenError>
-    ensures { OnOk result ((xs : List Exchange) → heard caller.old xs → (ys : List Exchange) × finished caller.new (xs ++ ys) × Promise (points_of points.now) (clauses book.now) ys) }
+    ensures { OnOk result ((xs : List Exchange) → heard caller.old xs → (ys : List Exchange) × finished caller.new (xs ++ ys) × Promise (points_of points.now) (B.clauses book.now) ys) }
 {
     let mut session = Session::new(heap);
     session.open(heap, points, book)?;
@@ -38,7 +38,7 @@ pub fn play_all<B: ClauseBook>(
     calls: &[Call],
 ) -> Result<Vec<Exchange>, OpenError>
     ensures calls { IfOk result (λ v. map call_of v.items ≡ calls.now) }
-    ensures promise { IfOk result (λ v. Promise (points_of points.now) (clauses book.now) v.items) }
+    ensures promise { IfOk result (λ v. Promise (points_of points.now) (B.clauses book.now) v.items) }
 {
     let mut log = Vec::with_capacity(heap, calls.len())?;
     let mut session = Session::new(heap);

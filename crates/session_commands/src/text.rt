@@ -56,7 +56,7 @@ fn push_others<B: ClauseBook>(
     book: &B,
     i: usize,
 ) -> Result<(), AllocError>
-    ensures { OnOk result (string_bytes out.new ≡ string_bytes out.old ++ spaced (drop 1 (slice_index_or (clauses book.now) i []))) }
+    ensures { OnOk result (string_bytes out.new ≡ string_bytes out.old ++ spaced (drop 1 (slice_index_or (B.clauses book.now) i []))) }
 {
     for j in 1..book.length(i) {
         out.push_str(" ")?;
@@ -72,7 +72,7 @@ fn push_clause<B: ClauseBook>(
     book: &B,
     i: usize,
 ) -> Result<(), AllocError>
-    ensures { OnOk result (string_bytes out.new ≡ string_bytes out.old ++ clause_text (slice_index_or (clauses book.now) i [])) }
+    ensures { OnOk result (string_bytes out.new ≡ string_bytes out.old ++ clause_text (slice_index_or (B.clauses book.now) i [])) }
 {
     if book.length(i) == 0 {
         out.push_str("\n")?;
@@ -86,7 +86,7 @@ fn push_clause<B: ClauseBook>(
 
 // How many clauses a book has, and then a line a clause, its literals one space apart.
 pub fn clauses<B: ClauseBook>(heap: Global, book: &B) -> Result<String, AllocError>
-    ensures { IfOk result (λ s. string_bytes s ≡ clauses_text (clauses book.now)) }
+    ensures { IfOk result (λ s. string_bytes s ≡ clauses_text (B.clauses book.now)) }
 {
     let count = book.count();
     let mut out = format!(in heap; "{count}\n")?;

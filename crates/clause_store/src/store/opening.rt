@@ -19,10 +19,10 @@ impl ClauseStore {
         values: usize,
     ) -> Result<ClauseStore, OpenError>
         requires { values < 2 ^ 31 }
-        ensures fit { OnOk result (Fit values (clauses book.now)) }
-        ensures unfit { IfErr result (λ e. IfUnfit e (Fit values (clauses book.now) → ⊥)) }
+        ensures fit { OnOk result (Fit values (B.clauses book.now)) }
+        ensures unfit { IfErr result (λ e. IfUnfit e (Fit values (B.clauses book.now) → ⊥)) }
         ensures values { IfOk result (λ s. s.values ≡ values) }
-        ensures clauses { IfOk result (λ s. clauses_of s ≡ clauses book.now) }
+        ensures clauses { IfOk result (λ s. clauses_of s ≡ B.clauses book.now) }
     {
         let FlatClauses { literals, starts } = gather(heap, book, values)?;
         let owners = owners(heap, &starts)?;

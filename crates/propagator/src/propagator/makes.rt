@@ -18,9 +18,9 @@ impl Propagator {
         values: usize,
     ) -> Result<Propagator, OpenError>
         requires { values < 2 ^ 31 }
-        ensures fit { OnOk result (Fit values (clauses book.now)) }
-        ensures unfit { IfErr result (λ e. IfUnfit e (Fit values (clauses book.now) → ⊥)) }
-        ensures state { IfOk result (λ p. state_of p ≡ record { values = values; clauses = clauses book.now; decisions = [] }) }
+        ensures fit { OnOk result (Fit values (B.clauses book.now)) }
+        ensures unfit { IfErr result (λ e. IfUnfit e (Fit values (B.clauses book.now) → ⊥)) }
+        ensures state { IfOk result (λ p. state_of p ≡ record { values = values; clauses = B.clauses book.now; decisions = [] }) }
     {
         let store = ClauseStore::read(heap, book, values)?;
         let mut trail = Trail::new(heap, values)?;

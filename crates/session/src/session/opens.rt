@@ -28,7 +28,7 @@ impl Session {
         points: &PointList,
         book: &B,
     ) -> Result<(), OpenError>
-        ensures answer { Opens (points_of points.now) (clauses book.now) (state_of self.new) result }
+        ensures answer { Opens (points_of points.now) (B.clauses book.now) (state_of self.new) result }
         ensures kept { OnErr result (self.new ≡ self.old) }
     {
         let inner = Propagator::open(heap, book, points.total())?;

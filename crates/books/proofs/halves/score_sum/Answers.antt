@@ -3,8 +3,8 @@ use Rattle.std.proofs.lemmas.List.{at_drop_more, at_drop_all}
 use Rattle.theory.specs.Encodings.{score, scores}
 use Rattle.books.proofs.halves.score_sum.Goals as goal
 
-pub overflow-add-sum : goal.overflow-add-sum
-overflow-add-sum g c = omega (arith, c.loop-i.invariant.1, c.score-sum.ensures.bound, c.requires, c.count-i-end.ensures, c.loop-i-test.true)
+pub overflow_add-sum : goal.overflow_add-sum
+overflow_add-sum g c = omega (arith, c.loop-i.invariant.1, c.score-sum.ensures.bound, c.requires, c.count-i-end.ensures, c.loop-i-test.true)
 
 pub loop-i-preserved : goal.loop-i-preserved
 loop-i-preserved g c =

@@ -4,8 +4,8 @@ use Rattle.books.specs.Stored.{row}
 use Rattle.books.proofs.Filling.{row_more, row_front}
 use Rattle.books.proofs.storing.words_needed.Goals as goal
 
-pub overflow-add-n-in-loop-i : goal.overflow-add-n-in-loop-i
-overflow-add-n-in-loop-i g c =
+pub overflow_add-n-in-loop-i : goal.overflow_add-n-in-loop-i
+overflow_add-n-in-loop-i g c =
     let cs = g.B.ClauseBook.clauses c.args.book.now in
     let i = c.loop-i.i in
     let more = ap length (row_more cs i (omega (arith, c.count-i-end.ensures, c.loop-i-test.true))) in

@@ -8,13 +8,13 @@ pub loop-i-init : goal.loop-i-init
 loop-i-init g c =
     (omega (arith, c.count-end.ensures), first_word c.args.words.now _ c.count.result (omega (arith, c.requires.room)) c.count.ensures)
 
-pub overflow-add-end-in-loop-i : goal.overflow-add-end-in-loop-i
-overflow-add-end-in-loop-i g c =
+pub overflow_add-end-in-loop-i : goal.overflow_add-end-in-loop-i
+overflow_add-end-in-loop-i g c =
     let cs = g.B.ClauseBook.clauses c.args.book.now in
     omega (arith, fits_row cs c.loop-i.i (omega (arith, c.count-i-end.ensures, c.loop-i-test.true)), c.loop-i.invariant.0, c.requires.small, c.length-end.ensures)
 
-pub overflow-cast-words-in-loop-i : goal.overflow-cast-words-in-loop-i
-overflow-cast-words-in-loop-i g c =
+pub overflow_cast-words-in-loop-i : goal.overflow_cast-words-in-loop-i
+overflow_cast-words-in-loop-i g c =
     let cs = g.B.ClauseBook.clauses c.args.book.now in
     omega (arith, fits_row cs c.loop-i.i (omega (arith, c.count-i-end.ensures, c.loop-i-test.true)), c.loop-i.invariant.0, c.requires.small, c.length-end.ensures)
 

@@ -13,15 +13,15 @@ loop-i-init g c =
           ap (λ k. take (k + 1) ws ++ drop (n + 1) ws) (sym c.count-place.ensures) ∙ take-append-drop (n + 1) ws),
     )
 
-pub write-clause-requires : goal.write-clause-requires
-write-clause-requires g c =
+pub write_clause-requires : goal.write_clause-requires
+write_clause-requires g c =
     let cs = g.B.ClauseBook.clauses c.args.book.now in
     omega (arith, fits_row cs c.loop-i.i (omega (arith, c.count-i-end.ensures, c.loop-i-test.true)), c.loop-i.invariant.0, c.requires, c.loop-i.auto.words)
 
-pub overflow-add-place-in-loop-i : goal.overflow-add-place-in-loop-i
-overflow-add-place-in-loop-i g c =
+pub overflow_add-place-in-loop-i : goal.overflow_add-place-in-loop-i
+overflow_add-place-in-loop-i g c =
     let cs = g.B.ClauseBook.clauses c.args.book.now in
-    omega (arith, fits_row cs c.loop-i.i (omega (arith, c.count-i-end.ensures, c.loop-i-test.true)), c.loop-i.invariant.0, c.requires, c.length-place.ensures, c.well-formed)
+    omega (arith, fits_row cs c.loop-i.i (omega (arith, c.count-i-end.ensures, c.loop-i-test.true)), c.loop-i.invariant.0, c.requires, c.length-place.ensures, c.well_formed)
 
 pub loop-i-preserved : goal.loop-i-preserved
 loop-i-preserved g c =
@@ -36,7 +36,7 @@ loop-i-preserved g c =
     let n : length front ≡ p =
     omega (arith, length-append (take (length cs + 1) ws) (row (take i cs)), length-take-le (length cs + 1) ws (omega (arith, c.requires)), c.loop-i.invariant.0) in (
       omega (arith, c.loop-i.invariant.0, c.length-place.ensures, ap length more, length-append (row (take i cs)) cl),
-      part_more front cl ws c.loop-i.words c.write-clause.new.words p n c.loop-i.invariant.1 c.write-clause.ensures ∙
+      part_more front cl ws c.loop-i.words c.write_clause.new.words p n c.loop-i.invariant.1 c.write_clause.ensures ∙
           ap (λ t. t ++ drop (p + length cl) ws) (append_assoc (take (length cs + 1) ws) (row (take i cs)) cl ∙ ap (λ t. take (length cs + 1) ws ++ t) (sym more)) ∙
           ap (λ k. (take (length cs + 1) ws ++ row (take (i + 1) cs)) ++ drop (p + k) ws) (sym c.length-place.ensures),
     )

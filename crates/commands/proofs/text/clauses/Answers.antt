@@ -8,8 +8,8 @@ use Rattle.commands.proofs.text.clauses.Goals as goal
 pub loop-clause-preserved : goal.loop-clause-preserved
 loop-clause-preserved c =
     piece_more (λ v. clause_text (vec_items v)) (decimal (length c.args.clauses.now) ++ codes "\n") c.args.clauses.now c.loop-clause.clause-index
-    c.clause-item.result (string_bytes c.loop-clause.out) (string_bytes c.push-clause.new.out) c.loop-clause-test.true c.clause-item.is c.loop-clause.invariant
-    (c.in-ok-push-clause.ensures ∙ ap (λ t. string_bytes c.loop-clause.out ++ clause_text t) c.deref.ensures.value)
+    c.clause-item.result (string_bytes c.loop-clause.out) (string_bytes c.push_clause.new.out) c.loop-clause-test.true c.clause-item.is c.loop-clause.invariant
+    (c.in_ok-push_clause.ensures ∙ ap (λ t. string_bytes c.loop-clause.out ++ clause_text t) c.deref.ensures.value)
 
 pub returns : goal.returns
 returns c =

@@ -9,8 +9,8 @@ loop-l-preserved c =
     let x = get_or c.args.literals.now c.loop-l.l-index 0 in
     let was = string_bytes c.loop-l.out in
     piece_more (λ l. codes " " ++ decimal l) (string_bytes c.args.out.now) c.args.literals.now c.loop-l.l-index x was
-    (string_bytes c.push-number.new.out) c.loop-l-test.true (get_or_default c.args.literals.now c.loop-l.l-index 0 x c.loop-l-test.true) c.loop-l.invariant
-    (c.in-ok-push-number.ensures ∙ ap (λ t. t ++ decimal x) c.in-ok-push-str.ensures.bytes ∙ append_assoc was (codes " ") (decimal x))
+    (string_bytes c.push_number.new.out) c.loop-l-test.true (get_or_default c.args.literals.now c.loop-l.l-index 0 x c.loop-l-test.true) c.loop-l.invariant
+    (c.in_ok-push_number.ensures ∙ ap (λ t. t ++ decimal x) c.in_ok-push_str.ensures.bytes ∙ append_assoc was (codes " ") (decimal x))
 
 pub returns : goal.returns
 returns c = c.loop-l.invariant ∙ ap (λ ls. string_bytes c.args.out.now ++ spaced ls) (take_all c.loop-l.l-index c.args.literals.now c.loop-l-test.false)

@@ -31,7 +31,7 @@ returns-in-err-draft c =
 pub finish-requires : goal.finish-requires
 finish-requires c =
     let d = c.in-ok-draft.draft in
-    let w = accepted_within c.args.file.now (contents (state_of d)) (bytes_typed c.args.file.now (λ i. omega (arith, c.type-inv.file i))) c.in-ok-draft.ensures in
+    let w = accepted_within c.args.file.now (contents (state_of d)) (bytes_typed c.args.file.now (λ i. omega (arith, c.type_inv.file i))) c.in-ok-draft.ensures in
     record {
       points = omega (arith, w.0, length-map (vec_items d.points) entry_of, d.points.ok.0);
       few = omega (arith, w.1, length-map (vec_items d.tables) table_of, d.tables.ok.0);

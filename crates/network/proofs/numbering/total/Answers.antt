@@ -3,8 +3,8 @@ use Rattle.std.proofs.lemmas.List.{at_drop_all}
 use Rattle.network.proofs.Places.{total_of, total_more}
 use Rattle.network.proofs.numbering.total.Goals as goal
 
-pub overflow-add-sum : goal.overflow-add-sum
-overflow-add-sum c = let w = c.point-item.result.within in search rules
+pub overflow_add-sum : goal.overflow_add-sum
+overflow_add-sum c = let w = c.point-item.result.within in search rules
 
 pub loop-point-preserved : goal.loop-point-preserved
 loop-point-preserved c =

@@ -16,7 +16,7 @@ loop-point-preserved c =
     let f = line_text (state_of s) in
     let more = ap length (joined_up f i) ∙ length-append (flat_map f (range_with_len 0 i)) (f i) in
     let label = ap length c.label.ensures in
-    (omega (arith, c.loop-point.invariant.0, c.values.ensures, c.label.type-inv), omega (arith, c.loop-point.invariant.1, p.within.1, c.values.ensures, c.label.type-inv))
+    (omega (arith, c.loop-point.invariant.0, c.values.ensures, c.label.type_inv), omega (arith, c.loop-point.invariant.1, p.within.1, c.values.ensures, c.label.type_inv))
 
 pub returns : goal.returns
 returns c =

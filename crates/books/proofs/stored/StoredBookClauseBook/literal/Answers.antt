@@ -6,13 +6,13 @@ use Rattle.books.proofs.stored.StoredBookClauseBook.literal.Goals as goal
 pub returns-then-j-length : goal.returns-then-j-length
 returns-then-j-length c = search (rules, get_or_past)
 
-pub overflow-add-result : goal.overflow-add-result
-overflow-add-result c =
+pub overflow_add-result : goal.overflow_add-result
+overflow_add-result c =
     let b = literal_within c.args.self.now.words.now c.args.i c.args.j (omega (arith, c.if-j-length.false, c.length.ensures)) in
     search (rules, b)
 
-pub offset-bounds-self-start : goal.offset-bounds-self-start
-offset-bounds-self-start c =
+pub offset_bounds-self-start : goal.offset_bounds-self-start
+offset_bounds-self-start c =
     let b = literal_within c.args.self.now.words.now c.args.i c.args.j (omega (arith, c.if-j-length.false, c.length.ensures)) in
     search (rules, b)
 

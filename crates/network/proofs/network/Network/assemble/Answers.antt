@@ -1,4 +1,4 @@
 use Rattle.network.proofs.network.Network.assemble.Goals as goal
 
-pub invariant-of-result : goal.invariant-of-result
-invariant-of-result c = (c.requires.few, (∣ c.requires.within ∣₁, tt))
+pub invariant_of-result : goal.invariant_of-result
+invariant_of-result c = record { few = c.requires.few; within = ∣ c.requires.within ∣₁ }

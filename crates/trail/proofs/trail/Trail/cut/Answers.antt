@@ -10,18 +10,19 @@ use Rattle.trail.proofs.trail.Trail.cut.Goals as goal
 pub loop-self-init : goal.loop-self-init
 loop-self-init c = let t = literals_of c.args.self.now in (c.requires, sym (take_all (length t) t (omega arith)), refl)
 
-pub index-mut-requires : goal.index-mut-requires
-index-mut-requires c =
+pub index_mut-requires : goal.index_mut-requires
+index_mut-requires c =
     omega (arith, last_below c.loop-self.self (vec_items c.pop.new.self) c.in-Some.literal c.in-Some.ensures.items)
 
-pub invariant-of-self : goal.invariant-of-self
-invariant-of-self c =
+pub invariant_of-self : goal.invariant_of-self
+invariant_of-self c =
     let s = c.loop-self.self in
-    let k = subst (λ t. Marked (vec_capacity s.literals) t (vec_items s.marks)) c.in-Some.ensures.items (marked_of s) in (
-      ∣ subst (λ a. Marked a (vec_items c.pop.new.self) (set (vec_items s.marks) (c.in-Some.literal / 2) Open)) (sym c.pop.ensures.capacity)
-          (marked_pop _ _ _ _ k) ∣₁,
-      tt,
-    )
+    let k = subst (λ t. Marked (vec_capacity s.literals) t (vec_items s.marks)) c.in-Some.ensures.items (marked_of s) in
+    record {
+      ok =
+          ∣ subst (λ a. Marked a (vec_items c.pop.new.self) (set (vec_items s.marks) (c.in-Some.literal / 2) Open)) (sym c.pop.ensures.capacity)
+          (marked_pop _ _ _ _ k) ∣₁;
+    }
 
 pub loop-self-preserved-in-Some : goal.loop-self-preserved-in-Some
 loop-self-preserved-in-Some c =

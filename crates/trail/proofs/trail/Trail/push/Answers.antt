@@ -4,19 +4,19 @@ use Rattle.trail.proofs.Marking.{room_for, marked_push}
 use Rattle.trail.proofs.Invariant.{marked_of}
 use Rattle.trail.proofs.trail.Trail.push.Goals as goal
 
-pub push-reserved-requires : goal.push-reserved-requires
-push-reserved-requires c =
+pub push_reserved-requires : goal.push_reserved-requires
+push_reserved-requires c =
     let s = c.args.self.now in
     let h : c.args.literal < 2 * length (vec_items s.marks) = omega (arith, c.requires.within) in
     omega (arith, room_for _ _ _ (marked_of s) c.args.literal h c.requires.fresh)
 
-pub invariant-of-self : goal.invariant-of-self
-invariant-of-self c =
+pub invariant_of-self : goal.invariant_of-self
+invariant_of-self c =
     let s = c.args.self.now in
     let l = c.args.literal in
-    let m = c.mark-by.result in
+    let m = c.mark_by.result in
     let h : l < 2 * length (vec_items s.marks) = omega (arith, c.requires.within) in
-    let k = marked_push _ _ _ (marked_of s) l m h c.requires.fresh c.mark-by.ensures in (
-      ∣ subst₂ (λ a t. Marked a t (set (vec_items s.marks) (l / 2) m)) (sym c.push-reserved.ensures.capacity) (sym c.push-reserved.ensures.items) k ∣₁,
-      tt,
-    )
+    let k = marked_push _ _ _ (marked_of s) l m h c.requires.fresh c.mark_by.ensures in
+    record {
+      ok = ∣ subst₂ (λ a t. Marked a t (set (vec_items s.marks) (l / 2) m)) (sym c.push_reserved.ensures.capacity) (sym c.push_reserved.ensures.items) k ∣₁;
+    }
