@@ -15,11 +15,11 @@ module _ (bs : List ℕ) (p : ℕ) where
   raw_past h = sym (at_drop_all (raw_at p) bs p h)
 
   -- a record begins with the byte at its place
-  raw_at : p < length bs → raw_at p (drop p bs) ≡ body_of p (kind_of (get_or bs p 0)) (drop (p + 1) bs)
-  raw_at h = at_drop_more (raw_at p) bs p 0 h
+  raw_at_lem : p < length bs → raw_at p (drop p bs) ≡ body_of p (kind_of (get_or bs p 0)) (drop (p + 1) bs)
+  raw_at_lem h = at_drop_more (raw_at p) bs p 0 h
 
   pub raw_unknown : p < length bs → kind_of (get_or bs p 0) ≡ None → Err (record { refusal = UnknownKind; place = p }) ≡ raw_at p (drop p bs)
-  raw_unknown h e = sym (raw_at h ∙ ap (λ k. body_of p k (drop (p + 1) bs)) e)
+  raw_unknown h e = sym (raw_at_lem h ∙ ap (λ k. body_of p k (drop (p + 1) bs)) e)
 
   module _ (k : Kind) (h : p < length bs) (e : kind_of (get_or bs p 0) ≡ Some k) where
     abbrev rest : List ℕ
@@ -36,12 +36,12 @@ module _ (bs : List ℕ) (p : ℕ) where
         let d = length-drop (p + 1) bs in
         let n : length bs ≡ p + 1 + length rest = omega arith in
         ap (λ x. Err (record { refusal = Truncated; place = x })) n ∙
-        sym (raw_at h ∙ ap (λ x. body_of p x rest) e ∙ cond-true (ltb (length rest) (body_length k)) short fine (lt-ltb (length rest) (body_length k) (omega arith)))
+        sym (raw_at_lem h ∙ ap (λ x. body_of p x rest) e ∙ cond-true (ltb (length rest) (body_length k)) short fine (lt-ltb (length rest) (body_length k) (omega arith)))
 
     pub raw_whole : body_length k ≤ length bs - (p + 1) → Ok (record { kind = k; body = take (body_length k) (drop (p + 1) bs) }) ≡ raw_at p (drop p bs)
     raw_whole l =
         let d = length-drop (p + 1) bs in
-        sym (raw_at h ∙ ap (λ x. body_of p x rest) e ∙ cond-false (ltb (length rest) (body_length k)) short fine (le-ltb (length rest) (body_length k) (omega arith)))
+        sym (raw_at_lem h ∙ ap (λ x. body_of p x rest) e ∙ cond-false (ltb (length rest) (body_length k)) short fine (le-ltb (length rest) (body_length k) (omega arith)))
 
 -- a test that decides something false fails
 pub fails : {P : Type 0} (b : Bool) → Decides b P → (P → ⊥) → b ≡ false

@@ -11,7 +11,7 @@ loop-i-preserved c =
     let i = c.loop-i.i - 1 in
     let e : c.loop-i.i ≡ i + 1 = omega arith in
     let d : i + 1 ≡ c.loop-i.i + 1 - 1 = omega arith in
-    let k = c.in-ok-resize.ensures in
+    let k = c.in_ok-resize.ensures in
     let n = ap (λ x. get_or starts x 0) e in
     let up = c.requires.rise i (omega arith) in
     subst (λ x. Owned starts x (vec_items vs)) d

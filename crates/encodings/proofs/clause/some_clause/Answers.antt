@@ -7,5 +7,5 @@ use Rattle.encodings.proofs.clause.some_clause.Goals as goal
 
 pub loop-i-preserved : goal.loop-i-preserved
 loop-i-preserved c =
-    let is : c.is-in.result ≡ is_in (number (counts_of c.args.points.now) c.args.point c.loop-i.i) = omega arith in
-    map_grown _ _ _ (count_up c.loop-i.i) [] _ (vec_items c.push.new.self) _ _ c.loop-i.invariant c.in-ok-push.ensures.items is
+    let is : c.is_in.result ≡ is_in (number (counts_of c.args.points.now) c.args.point c.loop-i.i) = omega arith in
+    map_grown _ _ _ (count_up c.loop-i.i) [] _ (vec_items c.push.new.self) _ _ c.loop-i.invariant c.in_ok-push.ensures.items is

@@ -10,11 +10,11 @@ use Rattle.encodings.proofs.encoder.encode.Goals as goal
 pub loop-table-preserved : goal.loop-table-preserved
 loop-table-preserved c =
     joined_grown _ _ _ (read_more table_of _ _ _ c.loop-table-test.true c.table-item.is) _ _ _ _ c.loop-table.invariant
-    c.in-ok-of-table.ensures
+    c.in_ok-of_table.ensures
 
 pub returns : goal.returns
 returns c =
     let all = take_all c.loop-table.table-index c.tables-table-items.result.now c.loop-table-test.false ∙ c.tables-table-items.ensures.value in
-    in_turn _ _ _ _ (clauses_of c.at-least-one.new.out) (clauses_of c.at-most-one.new.out) _
-    (ap (map vec_items) c.new-out.ensures.items) c.in-ok-at-least-one.ensures c.in-ok-at-most-one.ensures c.loop-table.invariant ∙
+    in_turn _ _ _ _ (clauses_of c.at_least_one.new.out) (clauses_of c.at_most_one.new.out) _
+    (ap (map vec_items) c.new-out.ensures.items) c.in_ok-at_least_one.ensures c.in_ok-at_most_one.ensures c.loop-table.invariant ∙
     (λ k. clauses c.args.encoding (record { counts = counts_of (c.points-points.ensures k); tables = tables_of (all k) }))

@@ -6,21 +6,21 @@ use Rattle.network.specs.Tables.{table_of}
 use Rattle.encodings.proofs.Growing.{count_up, length_kept_more}
 use Rattle.encodings.proofs.Scoring.{support_length}
 use Rattle.encodings.proofs.halves.partners.Goals as goal
-use Rattle.encodings.proofs.halves.partners.Goals.{then-is-partner, else-is-partner}
+use Rattle.encodings.proofs.halves.partners.Goals.{then-is_partner, else-is_partner}
 
 pub loop-j-preserved : goal.loop-j-preserved
 loop-j-preserved c =
     let p = partner c.args.side (table_of c.args.table.now) c.args.i in
-    elim c.if-is-partner.branch [
-      | then-is-partner w ↦
-          (omega (arith, w.n-is, length_kept_more _ _ _ (count_up c.loop-j.j) p true w.if-is-partner.ensures), omega (arith, w.n-is))
-      | else-is-partner w ↦
-          (omega (arith, w.n-is, length_kept_more _ _ _ (count_up c.loop-j.j) p false w.if-is-partner.ensures), omega (arith, w.n-is))
+    elim c.if-is_partner.branch [
+      | then-is_partner w ↦
+          (omega (arith, w.n-is, length_kept_more _ _ _ (count_up c.loop-j.j) p true w.if-is_partner.ensures), omega (arith, w.n-is))
+      | else-is_partner w ↦
+          (omega (arith, w.n-is, length_kept_more _ _ _ (count_up c.loop-j.j) p false w.if-is_partner.ensures), omega (arith, w.n-is))
     ]
 
 pub returns : goal.returns
 returns c =
     let ks = counts_of c.args.points.now in
     let t = table_of c.args.table.now in
-    let all : c.loop-j.j ≡ count ks (far c.args.side t) = omega (arith, ap (count ks) c.far-point.ensures) in
+    let all : c.loop-j.j ≡ count ks (far c.args.side t) = omega (arith, ap (count ks) c.far_point.ensures) in
     record { value = support_length ks c.args.side t c.args.i c.loop-j.n (rw all at c.loop-j.invariant.0); bound = omega arith }

@@ -7,5 +7,5 @@ returns-then-n-eq0 c = allow_none (vec_items c.args.tables.now) c.args.low c.arg
 
 pub returns : goal.returns
 returns c =
-    tables_allow (vec_items c.args.tables.now) _ c.index-mut.result.now c.allow.new.self c.args.low c.args.high c.len-n.result
-    (omega arith) (omega (arith, c.len-n.ensures, c.args.tables.now.ok.0)) c.index-mut.ensures.value refl c.allow.ensures
+    tables_allow (vec_items c.args.tables.now) _ c.index_mut.result.now c.allow.new.self c.args.low c.args.high c.len-n.result
+    (omega arith) (omega (arith, c.len-n.ensures, c.args.tables.now.ok.0)) c.index_mut.ensures.value refl c.allow.ensures

@@ -19,19 +19,19 @@ same_fault : (file : Result Contents Fault) (e : ReadError) → Drafts file (Err
 same_fault file (Refused f) h = h
 same_fault file OutOfMemory h = tt
 
-pub returns-in-err-draft : goal.returns-in-err-draft
-returns-in-err-draft c =
-    let q = err_from_is_err_and c.from-residual.result c.from-residual.ensures.1 in
+pub returns-in_err-draft : goal.returns-in_err-draft
+returns-in_err-draft c =
+    let q = err_from_is_err_and c.from_residual.result c.from_residual.ensures.1 in
     record {
-      answer = rw (q.1, q.2) (same_fault (read_file c.args.file.now) c.in-err-draft.field-0.0 c.in-err-draft.ensures);
+      answer = rw (q.1, q.2) (same_fault (read_file c.args.file.now) c.in_err-draft.field-0.0 c.in_err-draft.ensures);
       accepts = accepts_exactly;
       faults = first_fault_decides;
     }
 
 pub finish-requires : goal.finish-requires
 finish-requires c =
-    let d = c.in-ok-draft.draft in
-    let w = accepted_within c.args.file.now (contents (state_of d)) (bytes_typed c.args.file.now (λ i. omega (arith, c.type_inv.file i))) c.in-ok-draft.ensures in
+    let d = c.in_ok-draft.draft in
+    let w = accepted_within c.args.file.now (contents (state_of d)) (bytes_typed c.args.file.now (λ i. omega (arith, c.type_inv.file i))) c.in_ok-draft.ensures in
     record {
       points = omega (arith, w.0, length-map (vec_items d.points) entry_of, d.points.ok.0);
       few = omega (arith, w.1, length-map (vec_items d.tables) table_of, d.tables.ok.0);
@@ -41,7 +41,7 @@ finish-requires c =
 pub returns : goal.returns
 returns c =
     record {
-      answer = c.in-ok-draft.ensures ∙ ap Ok (sym c.finish.ensures);
+      answer = c.in_ok-draft.ensures ∙ ap Ok (sym c.finish.ensures);
       accepts = accepts_exactly;
       faults = first_fault_decides;
     }

@@ -12,7 +12,7 @@ loop-call-init g c =
     λ xs h. (
       [],
       subst (g.C.Caller.heard c.args.caller.now) (sym (append-nil xs)) h,
-      c.in-ok-open.ensures.answer.1,
+      c.in_ok-open.ensures.answer.1,
       exact_none (points_of c.args.points.now) (g.B.ClauseBook.clauses c.args.book.now),
     )
 
@@ -35,6 +35,6 @@ returns g c =
     λ xs h.
     let r = c.loop-call.invariant xs h in (
       r.0,
-      c.in-default.ensures.told (xs ++ r.0) r.1,
+      c.in_default.ensures.told (xs ++ r.0) r.1,
       kept c.loop-call.session (points_of c.args.points.now) (g.B.ClauseBook.clauses c.args.book.now) r.0 r.2 r.3,
     )

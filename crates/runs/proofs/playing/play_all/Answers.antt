@@ -12,10 +12,10 @@ pub loop-call-init : goal.loop-call-init
 loop-call-init g c =
     let ps = points_of c.args.points.now in
     let cs = g.B.ClauseBook.clauses c.args.book.now in
-    let m = c.in-ok-log.ensures in
-    let none : [] ≡ vec_items c.in-ok-log.log = sym m.items in (
+    let m = c.in_ok-log.ensures in
+    let none : [] ≡ vec_items c.in_ok-log.log = sym m.items in (
       ap (map call_of) m.items,
-      c.in-ok-open.ensures.answer.1 ∙ ap (state_after ps cs) none,
+      c.in_ok-open.ensures.answer.1 ∙ ap (state_after ps cs) none,
       subst (Exact ps cs) none (exact_none ps cs),
       m.capacity,
     )

@@ -11,7 +11,7 @@ loop-i-preserved g c =
     let i = c.loop-i.i in
     let lt : i < length cs = omega (arith, c.count-count.ensures, c.loop-i-test.true) in
     piece_more clause_text (decimal (length cs) ++ codes "\n") cs i (get_or cs i []) (string_bytes c.loop-i.out) (string_bytes c.push-clause.new.out) lt
-    (get_or_default cs i [] (get_or cs i []) lt) c.loop-i.invariant c.in-ok-push-clause.ensures
+    (get_or_default cs i [] (get_or cs i []) lt) c.loop-i.invariant c.in_ok-push-clause.ensures
 
 pub returns : goal.returns
 returns g c =

@@ -25,7 +25,7 @@ loop-link-preserved c =
     let e = get_or_read (vec_items links) k c.index-link-in-loop-link.result.now h c.index-link-in-loop-link.ensures 0 in (
       omega (arith, e, c.requires.before k (omega arith)),
       way_more (vec_items links) owners start k c.index-link-in-loop-link.result.now before after (vec_items c.push.new.self)
-          (subst (λ x. OnTheWay (vec_items links) owners start x before after) n c.loop-link.invariant.1) c.in-ok-push.ensures.items e,
+          (subst (λ x. OnTheWay (vec_items links) owners start x before after) n c.loop-link.invariant.1) c.in_ok-push.ensures.items e,
     )
 
 pub returns : goal.returns

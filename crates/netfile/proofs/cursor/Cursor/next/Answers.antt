@@ -7,12 +7,12 @@ use Rattle.netfile.proofs.cursor.Cursor.next.Goals as goal
 pub returns : goal.returns
 returns c =
     let p = c.args.self.now.position in
-    let w = c.in-ok-whole.whole in
-    let told = c.in-ok-whole.ensures in
-    let says = c.in-ok-record.ensures in
+    let w = c.in_ok-whole.whole in
+    let told = c.in_ok-whole.ensures in
+    let says = c.in_ok-record.ensures in
     record {
       answer = says ∙ ap (checked_raw p) told.answer;
       same = refl;
-      moves = omega (arith, told.size, ap body_length (checked_kind p w.kind w.body.now (item_of c.in-ok-record.record) says));
+      moves = omega (arith, told.size, ap body_length (checked_kind p w.kind w.body.now (item_of c.in_ok-record.record) says));
       within = told.within;
     }

@@ -11,6 +11,6 @@ returns c =
       announced_points = d.announced.points;
       announced_tables = d.announced.tables;
       points = entries (vec_items d.points);
-      tables = c.allow-last.ensures k;
+      tables = c.allow_last.ensures k;
       pairs = d.pairs + 1;
     }

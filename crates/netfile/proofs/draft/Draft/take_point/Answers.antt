@@ -12,12 +12,12 @@ returns-then-len-self c =
     let d = c.args.self.now in
     let n = length (entries (vec_items d.points)) + 1 in
     let l = length-map (vec_items d.points) entry_of in
-    let all : d.announced.points ≤ n = omega (arith, c.in-ok-push.ensures.len) in
+    let all : d.announced.points ≤ n = omega (arith, c.in_ok-push.ensures.len) in
     λ k. record {
       expect = sym (cond-false (ltb n d.announced.points) Points Tables (le-ltb n d.announced.points all)) k;
       announced_points = d.announced.points;
       announced_tables = d.announced.tables;
-      points = entries_push (vec_items d.points) (vec_items c.push.new.self) c.args.next c.in-ok-push.ensures.items k;
+      points = entries_push (vec_items d.points) (vec_items c.push.new.self) c.args.next c.in_ok-push.ensures.items k;
       tables = tables_of (vec_items d.tables);
       pairs = d.pairs;
     }
@@ -27,12 +27,12 @@ returns-else-len-self c =
     let d = c.args.self.now in
     let n = length (entries (vec_items d.points)) + 1 in
     let l = length-map (vec_items d.points) entry_of in
-    let some : n < d.announced.points = omega (arith, c.in-ok-push.ensures.len) in
+    let some : n < d.announced.points = omega (arith, c.in_ok-push.ensures.len) in
     λ k. record {
       expect = sym (cond-true (ltb n d.announced.points) Points Tables (lt-ltb n d.announced.points some)) k;
       announced_points = d.announced.points;
       announced_tables = d.announced.tables;
-      points = entries_push (vec_items d.points) (vec_items c.push.new.self) c.args.next c.in-ok-push.ensures.items k;
+      points = entries_push (vec_items d.points) (vec_items c.push.new.self) c.args.next c.in_ok-push.ensures.items k;
       tables = tables_of (vec_items d.tables);
       pairs = d.pairs;
     }

@@ -15,6 +15,6 @@ returns c =
       points = entries (vec_items d.points);
       tables =
           tables_push (vec_items d.tables) (vec_items c.push.new.self) c.new.result (empty_table c.args.low c.args.high)
-          c.in-ok-push.ensures.items c.new.ensures k;
+          c.in_ok-push.ensures.items c.new.ensures k;
       pairs = d.pairs;
     }

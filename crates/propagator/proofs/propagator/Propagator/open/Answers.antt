@@ -7,19 +7,19 @@ use Rattle.propagator.proofs.propagator.Propagator.open.Goals as goal
 
 pub settle-clashed-requires : goal.settle-clashed-requires
 settle-clashed-requires g c = record {
-  sized = c.in-ok-store.ensures.values ∙ sym c.in-ok-trail.ensures.values;
-  bare = c.in-ok-trail.ensures.literals;
+  sized = c.in_ok-store.ensures.values ∙ sym c.in_ok-trail.ensures.values;
+  bare = c.in_ok-trail.ensures.literals;
 }
 
 pub invariant-of-result : goal.invariant-of-result
 invariant-of-result g c =
-    let b = c.in-ok-store.store in
+    let b = c.in_ok-store.store in
     let u = c.settle-clashed.new.trail in
     let r = c.settle-clashed.result in
-    let v = c.in-ok-store.ensures.values in
-    let t = c.in-ok-trail.ensures.values in
-    let d = c.in-ok-decisions.ensures in
-    let h = c.in-ok-heights.ensures in
+    let v = c.in_ok-store.ensures.values in
+    let t = c.in_ok-trail.ensures.values in
+    let d = c.in_ok-decisions.ensures in
+    let h = c.in_ok-heights.ensures in
     let k = standing_none b.values (clauses_of b) (literals_of u) r c.settle-clashed.ensures.exact c.settle-clashed.ensures.answer in (
       v ∙ sym (c.settle-clashed.ensures.many ∙ t),
       (

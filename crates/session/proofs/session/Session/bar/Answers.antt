@@ -6,17 +6,17 @@ use Rattle.session.proofs.session.Session.bar.Goals as goal
 pub mark-requires : goal.mark-requires
 mark-requires c =
     let s = c.args.self.now in
-    let f = c.in-ok-n.ensures.found in
+    let f = c.in_ok-n.ensures.found in
     record { within = found_below s _ _ _ f; calm = found_calm s _ _ _ f }
 
 pub is-out-requires : goal.is-out-requires
-is-out-requires c = found_small c.args.self.now _ _ _ c.in-ok-n.ensures.found
+is-out-requires c = found_small c.args.self.now _ _ _ c.in_ok-n.ensures.found
 
 pub decide-requires : goal.decide-requires
 decide-requires c =
     let s = c.args.self.now in
-    let f = c.in-ok-n.ensures.found in
-    let half : c.is-out.result / 2 ≡ c.in-ok-n.n = omega (arith, c.is-out.ensures) in
+    let f = c.in_ok-n.ensures.found in
+    let half : c.is-out.result / 2 ≡ c.in_ok-n.n = omega (arith, c.is-out.ensures) in
     record {
       within = omega (arith, c.is-out.ensures, found_below s _ _ _ f);
       calm = found_calm s _ _ _ f;

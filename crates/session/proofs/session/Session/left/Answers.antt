@@ -11,12 +11,12 @@ use Rattle.session.proofs.session.Session.left.Goals as goal
 use Rattle.session.proofs.session.Session.left.Goals.{in-Out, in-In}
 
 pub overflow-add-first : goal.overflow-add-first
-overflow-add-first c = omega (arith, all_below c.args.self.now _ _ _ c.in-ok-first.ensures.found c.loop-v.v c.loop-v-test.true, few_all c.args.self.now, c.args.self.now.sized)
+overflow-add-first c = omega (arith, all_below c.args.self.now _ _ _ c.in_ok-first.ensures.found c.loop-v.v c.loop-v-test.true, few_all c.args.self.now, c.args.self.now.sized)
 
 pub mark-requires : goal.mark-requires
 mark-requires c =
     let s = c.args.self.now in
-    let f = c.in-ok-first.ensures.found in
+    let f = c.in_ok-first.ensures.found in
     record { within = all_below s _ _ _ f c.loop-v.v c.loop-v-test.true; calm = all_calm s _ _ _ f }
 
 pub loop-v-preserved : goal.loop-v-preserved
@@ -24,7 +24,7 @@ loop-v-preserved c =
     let s = c.args.self.now in
     let v = c.loop-v.v in
     let f : ℕ → Bool = λ k. not (marks_out (mark_at (state_of s) c.args.point k)) in
-    let is : mark_at (state_of s) c.args.point v ≡ c.mark.result = all_mark s _ _ _ c.in-ok-first.ensures.found v ∙ sym c.mark.ensures in
+    let is : mark_at (state_of s) c.args.point v ≡ c.mark.result = all_mark s _ _ _ c.in_ok-first.ensures.found v ∙ sym c.mark.ensures in
     elim c.match-mark.branch [
       | in-Out w ↦
           let e : false ≡ f v = sym (ap (λ m. not (marks_out m)) (is ∙ w.in-Out.is)) in
@@ -39,7 +39,7 @@ pub returns : goal.returns
 returns c =
     let s = c.args.self.now in
     let f : ℕ → Bool = λ k. not (marks_out (mark_at (state_of s) c.args.point k)) in
-    let found = c.in-ok-first.ensures.found in
-    let all : c.loop-v.v ≡ c.in-ok-first.count = omega (arith, c.loop-v.auto.v-end, c.loop-v-test.false) in
+    let found = c.in_ok-first.ensures.found in
+    let all : c.loop-v.v ≡ c.in_ok-first.count = omega (arith, c.loop-v.auto.v-end, c.loop-v-test.false) in
     ap Ok (c.loop-v.invariant.0 ∙ ap (λ n. length (filter f (range_with_len 0 n))) (all ∙ found.counts)) ∙
     all_answered s _ _ _ found _

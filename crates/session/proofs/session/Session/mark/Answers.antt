@@ -4,5 +4,5 @@ use Rattle.session.proofs.session.Session.mark.Goals as goal
 pub mark-requires : goal.mark-requires
 mark-requires c =
     let s = c.args.self.now in
-    let f = c.in-ok-n.ensures.found in
+    let f = c.in_ok-n.ensures.found in
     record { within = found_below s _ _ _ f; calm = found_calm s _ _ _ f }
