@@ -18,8 +18,8 @@ returns-in-Some c net =
     let found = c.in-Some.ensures.value in
     let low = ap (offset ks) c.low.ensures in
     let high = ap (offset ks) c.high.ensures in
-    let one : c.is-out.result ≡ is_out (number ks t.low i) = omega arith in
-    let other : c.is-out-in-Some.result ≡ is_out (number ks t.high j) = omega arith in
+    let one : c.is_out.result ≡ is_out (number ks t.low i) = omega arith in
+    let other : c.is_out-in-Some.result ≡ is_out (number ks t.high j) = omega arith in
     let f = not_both ks t.low i t.high in
     let is = get_or-map f (row false ks Lower t i) c.args.n 0 [] found.0 ∙ ap f found.1 in
     cc

@@ -11,7 +11,7 @@ returns-then-j-count c =
     let ks = counts_of c.args.points.now in
     let p = c.args.p in
     let j = c.args.j in
-    let is : c.is-in.result ≡ is_in (number ks p j) = omega arith in
+    let is : c.is_in.result ≡ is_in (number ks p j) = omega arith in
     is ∙ sym (get_or-map-range_with_len (λ i. is_in (number ks p i)) 0 (count ks p) j j 0 (omega arith) (omega arith))
 
 pub returns-else-j-count : goal.returns-else-j-count

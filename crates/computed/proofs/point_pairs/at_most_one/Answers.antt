@@ -12,7 +12,7 @@ loop-p-preserved c =
 pub returns-then-left-size : goal.returns-then-left-size
 returns-then-left-size c net =
     let ks = counts_of c.args.points.now in
-    c.not-two.ensures net ∙
+    c.not_two.ensures net ∙
     sym (count_in_block (not_two ks) (length ks) c.loop-p.p c.loop-p.left c.args.n [] (omega arith) (omega arith) c.loop-p.invariant)
 
 pub returns : goal.returns

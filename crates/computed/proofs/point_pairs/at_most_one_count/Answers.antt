@@ -5,8 +5,8 @@ use Rattle.network.proofs.Lookups.{length_counts}
 use Rattle.computed.proofs.Blocks.{count_before_more, count_before_all}
 use Rattle.computed.proofs.point_pairs.at_most_one_count.Goals as goal
 
-pub overflow-add-sum : goal.overflow-add-sum
-overflow-add-sum c = omega (arith, length_counts (vec_items c.args.points.now.points), c.args.points.now.within)
+pub overflow_add-sum : goal.overflow_add-sum
+overflow_add-sum c = omega (arith, length_counts (vec_items c.args.points.now.points), c.args.points.now.within)
 
 pub loop-p-preserved : goal.loop-p-preserved
 loop-p-preserved c =

@@ -21,8 +21,8 @@ returns-then-left-size c net =
     let l = c.loop-i.left in
     let found = count_in_block (not_with_later ks p) (count ks p) i l c.args.n [] (omega arith) (omega (arith, length_later ks p i)) c.loop-i.invariant in
     let is = later_at ks p i l (omega arith) in
-    let one : c.is-out.result ≡ is_out (number ks p i) = omega arith in
-    let other : c.is-out-then-left-size.result ≡ is_out (number ks p (i + 1 + l)) = omega arith in
+    let one : c.is_out.result ≡ is_out (number ks p i) = omega arith in
+    let other : c.is_out-then-left-size.result ≡ is_out (number ks p (i + 1 + l)) = omega arith in
     cc
 
 pub returns : goal.returns

@@ -19,7 +19,7 @@ returns-in-Some c =
     λ s. ap (λ ps. half (counts_of ps) s t) c.points.ensures ∙
     sym (table_at c.tables.result.now ts c.tables.ensures.value (half (counts_of net.points) s) c.args.table [] c.in-Some.found.now found.3.0 found.1) in (
       omega (arith, found.3.0, tables_length c.tables.result.now ts c.tables.ensures.value),
-      subst₂ (λ low high. ScoresOf low high c.of-table.result) (at Lower) (at Higher) c.of-table.ensures,
+      subst₂ (λ low high. ScoresOf low high c.of_table.result) (at Lower) (at Higher) c.of_table.ensures,
     )
 
 pub returns-in-None : goal.returns-in-None

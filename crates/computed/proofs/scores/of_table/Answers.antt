@@ -14,8 +14,8 @@ few_clauses b =
     let t = table_of b.table.now in
     omega (arith, half_length (counts_of b.points.now) b.side t, few_values (vec_items b.points.now.points) (near b.side t))
 
-pub score-sum-lower-requires : goal.score-sum-lower-requires
-score-sum-lower-requires c = few_clauses c.new.result
+pub score_sum-lower-requires : goal.score_sum-lower-requires
+score_sum-lower-requires c = few_clauses c.new.result
 
-pub score-sum-higher-requires : goal.score-sum-higher-requires
-score-sum-higher-requires c = few_clauses c.new-2.result
+pub score_sum-higher-requires : goal.score_sum-higher-requires
+score_sum-higher-requires c = few_clauses c.new-2.result

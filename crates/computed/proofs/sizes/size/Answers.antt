@@ -28,7 +28,7 @@ returns-in-MinimalSupport c =
     let t = table_of c.args.table.now in
     record {
       value =
-          c.count-in-MinimalSupport.ensures.value ∙ ap (count ks) c.near-point.ensures ∙ ap (λ s. count ks (near s t)) c.better-side-side.ensures ∙
+          c.count-in-MinimalSupport.ensures.value ∙ ap (count ks) c.near_point.ensures ∙ ap (λ s. count ks (near s t)) c.better_side-side.ensures ∙
           sym (half_length ks (better_side ks t) t) ∙ sym (ap (λ e. size_of e ks t) c.in-MinimalSupport.is);
       bound = omega arith;
     }

@@ -13,7 +13,7 @@ returns-in-Some c =
     let f : Table → List ℕ = λ t. support_clause (counts_of net.points) c.args.side t c.args.i in
     let found = c.in-Some.ensures.lookup in
     let here = table_at c.tables.result.now (vec_items net.tables) c.tables.ensures.value f c.args.k [] t found.3.0 found.1 in
-    c.literal-in.ensures ∙ ap (λ ps. get_or (support_clause (counts_of ps) c.args.side (table_of t) c.args.i) c.args.j 0) c.points.ensures ∙
+    c.literal_in.ensures ∙ ap (λ ps. get_or (support_clause (counts_of ps) c.args.side (table_of t) c.args.i) c.args.j 0) c.points.ensures ∙
     sym (ap (λ l. get_or l c.args.j 0) here)
 
 pub returns-in-None : goal.returns-in-None

@@ -18,8 +18,8 @@ returns-in-Some c =
     let ps = row true ks s t c.args.i in
     let found = c.in-Some.ensures.value in
     let f : ℕ → ℕ = λ j. is_in (number ks (far s t) j) in
-    let other = ap (offset ks) c.far-point.ensures in
-    let is : c.is-in.result ≡ f c.in-Some.partner = omega arith in
+    let other = ap (offset ks) c.far_point.ensures in
+    let is : c.is_in.result ≡ f c.in-Some.partner = omega arith in
     is ∙ ap f (sym found.1) ∙ sym (get_or-map f ps (c.args.j - 1) 0 0 found.0) ∙ sym (get_d_behind _ (map f ps) c.args.j 0 (omega arith))
 
 pub returns-in-None : goal.returns-in-None

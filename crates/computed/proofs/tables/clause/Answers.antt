@@ -39,7 +39,7 @@ returns-then-left-size c =
     let h : k < length m.tables = omega arith in
     let size = size_at e m c.args.sizes.now c.requires k h in
     let here = table_at us vs same f k [] x c.loop-k-test.true c.table-item.is in
-    c.of-table.ensures m (ap counts_of (sym c.points-points.ensures), λ g. table_at us vs same g k [] x c.loop-k-test.true c.table-item.is) ∙
+    c.of_table.ensures m (ap counts_of (sym c.points-points.ensures), λ g. table_at us vs same g k [] x c.loop-k-test.true c.table-item.is) ∙
     ap (λ ps. get_or (table_clauses e (counts_of ps) (table_of x)) l []) c.points-points.ensures ∙
     sym (in_block f m.tables k l c.args.n [] h (omega (arith, size)) c.loop-k.invariant ∙ ap (λ b. get_or b l []) here)
 

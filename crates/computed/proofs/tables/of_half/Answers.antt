@@ -15,7 +15,7 @@ returns-then-n-count c net has =
     let t = table_of c.args.table.now in
     let s = c.args.side in
     let n = c.args.n in
-    let same = ap (count ks) c.near-point.ensures in
+    let same = ap (count ks) c.near_point.ensures in
     has.1 (λ t. support_clause net.counts s t n) ∙ ap (λ ks. support_clause ks s t n) has.0 ∙
     sym (get_or-map-range_with_len (support_clause ks s t) 0 (count ks (near s t)) n n [] (omega arith) (omega arith))
 
@@ -24,5 +24,5 @@ returns-else-n-count c net has =
     let ks = counts_of c.args.points.now in
     let t = table_of c.args.table.now in
     let s = c.args.side in
-    let same = ap (count ks) c.near-point.ensures in
+    let same = ap (count ks) c.near_point.ensures in
     sym (get_or_past (half ks s t) c.args.n [] (omega (arith, half_length ks s t)))

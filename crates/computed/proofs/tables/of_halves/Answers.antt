@@ -14,7 +14,7 @@ returns-then-n-lower c net has =
     let t = table_of c.args.table.now in
     let same = ap (count ks) c.low.ensures in
     let long = half_length ks Lower t in
-    c.of-half.ensures net has ∙ sym (get_or_append_left (half ks Lower t) (half ks Higher t) [] c.args.n (omega arith))
+    c.of_half.ensures net has ∙ sym (get_or_append_left (half ks Lower t) (half ks Higher t) [] c.args.n (omega arith))
 
 pub returns-else-n-lower : goal.returns-else-n-lower
 returns-else-n-lower c net has =
@@ -22,5 +22,5 @@ returns-else-n-lower c net has =
     let t = table_of c.args.table.now in
     let same = ap (count ks) c.low.ensures in
     let long : length (half ks Lower t) ≡ c.count-lower.result = omega (arith, half_length ks Lower t) in
-    c.of-half-else-n-lower.ensures net has ∙
+    c.of_half-else-n-lower.ensures net has ∙
     sym (get_or-append_right (half ks Lower t) (half ks Higher t) c.count-lower.result c.args.n [] long (omega arith))

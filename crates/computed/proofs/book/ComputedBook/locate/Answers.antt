@@ -29,7 +29,7 @@ returns-then-i-some-2 c =
     let long : length (at_least_one ks) ≡ n =
     length-map-range_with_len (some_clause ks) 0 (length ks) ∙ sym (c.len-some.ensures ∙ ap (λ ps. length (counts_of ps)) c.points-points.ensures) in
     let many = ap (λ ps. length (at_most_one (counts_of ps))) c.points-points.ensures in
-    c.at-most-one.ensures net ∙ ap (λ ps. get_or (at_most_one (counts_of ps)) (i - n) []) c.points-points.ensures ∙
+    c.at_most_one.ensures net ∙ ap (λ ps. get_or (at_most_one (counts_of ps)) (i - n) []) c.points-points.ensures ∙
     sym (in_second (at_least_one ks) (at_most_one ks) (flat_map (table_clauses b.encoding ks) net.tables) [] i n long (omega arith) (omega arith))
 
 pub returns : goal.returns
@@ -41,8 +41,8 @@ returns c =
     let n = c.len-some.result in
     let long : length (at_least_one ks) ≡ n =
     length-map-range_with_len (some_clause ks) 0 (length ks) ∙ sym (c.len-some.ensures ∙ ap (λ ps. length (counts_of ps)) c.points-points.ensures) in
-    let m = c.at-most-one-count-pairs.result in
+    let m = c.at_most_one_count-pairs.result in
     let many : length (at_most_one ks) ≡ m =
-    sym (c.at-most-one-count-pairs.ensures.value ∙ ap (λ ps. length (at_most_one (counts_of ps))) c.points-points.ensures) in
+    sym (c.at_most_one_count-pairs.ensures.value ∙ ap (λ ps. length (at_most_one (counts_of ps))) c.points-points.ensures) in
     c.clause.ensures ∙
     sym (in_third (at_least_one ks) (at_most_one ks) (flat_map (table_clauses b.encoding ks) net.tables) [] i n long m many (omega arith) (omega arith))

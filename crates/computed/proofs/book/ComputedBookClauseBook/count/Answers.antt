@@ -10,11 +10,11 @@ use Rattle.computed.proofs.Measured.{sum_lengths}
 use Rattle.computed.proofs.ThreeParts.{three_lengths}
 use Rattle.computed.proofs.book.ComputedBookClauseBook.count.Goals as goal
 
-pub overflow-add-result : goal.overflow-add-result
-overflow-add-result c = omega (arith, length_counts (vec_items c.points-points.result.now.points), c.points-points.result.now.within)
+pub overflow_add-result : goal.overflow_add-result
+overflow_add-result c = omega (arith, length_counts (vec_items c.points-points.result.now.points), c.points-points.result.now.within)
 
-pub overflow-add-result-2 : goal.overflow-add-result-2
-overflow-add-result-2 c = omega (arith, length_counts (vec_items c.points-points.result.now.points), c.points-points.result.now.within)
+pub overflow_add-result-2 : goal.overflow_add-result-2
+overflow_add-result-2 c = omega (arith, length_counts (vec_items c.points-points.result.now.points), c.points-points.result.now.within)
 
 pub returns : goal.returns
 returns c =

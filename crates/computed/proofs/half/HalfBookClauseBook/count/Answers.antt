@@ -9,4 +9,4 @@ pub returns : goal.returns
 returns c =
     let b = c.args.self.now in
     let ks = counts_of b.points.now in
-    c.count.ensures.value ∙ ap (countAt ks) c.near-point.ensures ∙ sym (half_length ks b.side (table_of b.table.now))
+    c.count.ensures.value ∙ ap (countAt ks) c.near_point.ensures ∙ sym (half_length ks b.side (table_of b.table.now))

@@ -11,7 +11,7 @@ returns-then-i-count c =
     let b = c.args.self.now in
     let ks = counts_of b.points.now in
     let t = table_of b.table.now in
-    let n : c.count.result ≡ countAt ks (near b.side t) = c.count.ensures.value ∙ ap (countAt ks) c.near-point.ensures in
+    let n : c.count.result ≡ countAt ks (near b.side t) = c.count.ensures.value ∙ ap (countAt ks) c.near_point.ensures in
     c.partners.ensures.value ∙ sym (ap length (half_at ks b.side t c.args.i (omega (arith, c.if-i-count.true))))
 
 pub returns-else-i-count : goal.returns-else-i-count
@@ -19,5 +19,5 @@ returns-else-i-count c =
     let b = c.args.self.now in
     let ks = counts_of b.points.now in
     let t = table_of b.table.now in
-    let n : c.count.result ≡ countAt ks (near b.side t) = c.count.ensures.value ∙ ap (countAt ks) c.near-point.ensures in
+    let n : c.count.result ≡ countAt ks (near b.side t) = c.count.ensures.value ∙ ap (countAt ks) c.near_point.ensures in
     sym (ap length (half_past ks b.side t c.args.i (omega (arith, c.if-i-count.false))))

@@ -11,13 +11,13 @@ returns-then-i-count c =
     let b = c.args.self.now in
     let ks = counts_of b.points.now in
     let t = table_of b.table.now in
-    let n : c.count.result ≡ countAt ks (near b.side t) = c.count.ensures.value ∙ ap (countAt ks) c.near-point.ensures in
-    c.literal-in.ensures ∙ sym (ap (λ cl. get_or cl c.args.j 0) (half_at ks b.side t c.args.i (omega (arith, c.if-i-count.true))))
+    let n : c.count.result ≡ countAt ks (near b.side t) = c.count.ensures.value ∙ ap (countAt ks) c.near_point.ensures in
+    c.literal_in.ensures ∙ sym (ap (λ cl. get_or cl c.args.j 0) (half_at ks b.side t c.args.i (omega (arith, c.if-i-count.true))))
 
 pub returns-else-i-count : goal.returns-else-i-count
 returns-else-i-count c =
     let b = c.args.self.now in
     let ks = counts_of b.points.now in
     let t = table_of b.table.now in
-    let n : c.count.result ≡ countAt ks (near b.side t) = c.count.ensures.value ∙ ap (countAt ks) c.near-point.ensures in
+    let n : c.count.result ≡ countAt ks (near b.side t) = c.count.ensures.value ∙ ap (countAt ks) c.near_point.ensures in
     sym (ap (λ cl. get_or cl c.args.j 0) (half_past ks b.side t c.args.i (omega (arith, c.if-i-count.false))))

@@ -12,13 +12,13 @@ use Rattle.propagator.proofs.Deciding.{same_reached_decided, same_clash_decided}
 use Rattle.propagator.proofs.Invariant.{standing_of, holds_of, mark_of_lem, room}
 use Rattle.propagator.proofs.propagator.Propagator.decide.Goals as goal
 
-pub push-reserved-requires : goal.push-reserved-requires
-push-reserved-requires c =
+pub push_reserved-requires : goal.push_reserved-requires
+push_reserved-requires c =
     let s = c.args.self.now in
     omega (arith, (room s c.requires.calm (c.args.literal / 2) (omega (arith, c.requires.within)) c.requires.fresh).0, s.roomy.0)
 
-pub push-reserved-requires-2 : goal.push-reserved-requires-2
-push-reserved-requires-2 c =
+pub push_reserved-requires-2 : goal.push_reserved-requires-2
+push_reserved-requires-2 c =
     let s = c.args.self.now in
     omega (arith, (room s c.requires.calm (c.args.literal / 2) (omega (arith, c.requires.within)) c.requires.fresh).1, s.roomy.1)
 
@@ -45,8 +45,8 @@ propagate-self-requires c =
       ready = λ cl k. subst (λ x. Done u x cl) (sym h) (done_pushed s.store.values (clauses_of s.store) (clauses_within s.store) (vec_items s.decisions) t (holds_of s c.requires.calm) u l q cl k);
     }
 
-pub invariant-of-self : goal.invariant-of-self
-invariant-of-self c =
+pub invariant_of-self : goal.invariant_of-self
+invariant_of-self c =
     let s = c.args.self.now in
     let n = s.store.values in
     let cs = clauses_of s.store in
@@ -65,7 +65,7 @@ invariant-of-self c =
     (c.propagate-self.ensures.answer ∙ same_clash_decided n cs (clauses_within s.store) ds t u l x q) in (
       s.sized ∙ sym (c.propagate-self.ensures.many ∙ c.push.ensures.values),
       (
-        (omega (arith, s.roomy.0, c.push-reserved.ensures.capacity), omega (arith, s.roomy.1, c.push-reserved-2.ensures.capacity)),
-        (∣ subst₂ (λ a b. Standing n cs w a b r) (sym c.push-reserved.ensures.items) (sym (c.push-reserved-2.ensures.items ∙ ap (λ y. hs ++ y ∷ []) c.len-head.ensures)) k ∣₁, tt),
+        (omega (arith, s.roomy.0, c.push_reserved.ensures.capacity), omega (arith, s.roomy.1, c.push_reserved-2.ensures.capacity)),
+        (∣ subst₂ (λ a b. Standing n cs w a b r) (sym c.push_reserved.ensures.items) (sym (c.push_reserved-2.ensures.items ∙ ap (λ y. hs ++ y ∷ []) c.len-head.ensures)) k ∣₁, tt),
       ),
     )

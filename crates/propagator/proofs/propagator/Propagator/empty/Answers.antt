@@ -3,8 +3,8 @@ use Rattle.propagator.proofs.Standings.{standing_empty}
 use Rattle.propagator.proofs.Invariant.{same_state}
 use Rattle.propagator.proofs.propagator.Propagator.empty.Goals as goal
 
-pub invariant-of-result : goal.invariant-of-result
-invariant-of-result c =
+pub invariant_of-result : goal.invariant_of-result
+invariant_of-result c =
     let v = c.empty.ensures.values in (
       v ∙ sym c.empty-2.ensures.values,
       (

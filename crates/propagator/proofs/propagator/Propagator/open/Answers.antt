@@ -11,8 +11,8 @@ settle-clashed-requires g c = record {
   bare = c.in_ok-trail.ensures.literals;
 }
 
-pub invariant-of-result : goal.invariant-of-result
-invariant-of-result g c =
+pub invariant_of-result : goal.invariant_of-result
+invariant_of-result g c =
     let b = c.in_ok-store.store in
     let u = c.settle-clashed.new.trail in
     let r = c.settle-clashed.result in

@@ -19,8 +19,8 @@ cut-requires c =
       back_within _ _ _ _ _ _ (standing_of s) _ _ (take c.in-Some.height (literals_of s.trail)) c.in-Some.height c.in-Some.ensures.items p refl,
     )
 
-pub invariant-of-self-in-Some : goal.invariant-of-self-in-Some
-invariant-of-self-in-Some c =
+pub invariant_of-self-in-Some : goal.invariant_of-self-in-Some
+invariant_of-self-in-Some c =
     let s = c.args.self.now in
     let n = s.store.values in
     let cs = clauses_of s.store in
