@@ -32,8 +32,8 @@ both_halved net k cs ds low low' high high' (Err (TooFewWords n)) h a b s =
 both_halved net k cs ds low low' high high' (Err NoSuch) h a b s = absurd s
 both_halved net k cs ds low low' high high' (Err NotStored) h a b s = absurd s
 
-pub store-both-requires : goal.store-both-requires
-store-both-requires c =
+pub store_both-requires : goal.store_both-requires
+store_both-requires c =
     let lower = c.new-lower.result in
     let higher = c.new-higher.result in
     record {
@@ -57,8 +57,8 @@ returns-in-Some c =
     (c.new-lower.ensures.points ∙ c.points-points.ensures) c.new-lower.ensures.side c.new-lower.ensures.table ∙ sym (at Lower) in
     let high_is = half_same higher.points.now net.points higher.side Higher higher.table.now t
     (c.new-higher.ensures.points ∙ c.points-points.ensures) c.new-higher.ensures.side c.new-higher.ensures.table ∙ sym (at Higher) in
-    both_halved (meaning net) k _ _ c.args.low.now c.store-both.new.low c.args.high.now c.store-both.new.high
-    c.store-both.result lt low-is high_is c.store-both.ensures
+    both_halved (meaning net) k _ _ c.args.low.now c.store_both.new.low c.args.high.now c.store_both.new.high
+    c.store_both.result lt low-is high_is c.store_both.ensures
 
 pub returns-in-None : goal.returns-in-None
 returns-in-None c =

@@ -62,10 +62,9 @@ invariant_of-self c =
     let x = holds_of s c.requires.calm in
     let k = standing_decide n cs t ds hs s.clashed (standing_of s) u w g.more l r q g.is c.requires.within x
     (λ z m. c.propagate-self.ensures.exact z m ∙ same_reached_decided n cs (clauses_within s.store) ds t u l x q m)
-    (c.propagate-self.ensures.answer ∙ same_clash_decided n cs (clauses_within s.store) ds t u l x q) in (
-      s.sized ∙ sym (c.propagate-self.ensures.many ∙ c.push.ensures.values),
-      (
-        (omega (arith, s.roomy.0, c.push_reserved.ensures.capacity), omega (arith, s.roomy.1, c.push_reserved-2.ensures.capacity)),
-        (∣ subst₂ (λ a b. Standing n cs w a b r) (sym c.push_reserved.ensures.items) (sym (c.push_reserved-2.ensures.items ∙ ap (λ y. hs ++ y ∷ []) c.len-head.ensures)) k ∣₁, tt),
-      ),
-    )
+    (c.propagate-self.ensures.answer ∙ same_clash_decided n cs (clauses_within s.store) ds t u l x q) in
+    record {
+      sized = s.sized ∙ sym (c.propagate-self.ensures.many ∙ c.push.ensures.values);
+      roomy = (omega (arith, s.roomy.0, c.push_reserved.ensures.capacity), omega (arith, s.roomy.1, c.push_reserved-2.ensures.capacity));
+      ok = ∣ subst₂ (λ a b. Standing n cs w a b r) (sym c.push_reserved.ensures.items) (sym (c.push_reserved-2.ensures.items ∙ ap (λ y. hs ++ y ∷ []) c.len-head.ensures)) k ∣₁;
+    }

@@ -20,10 +20,9 @@ invariant_of-result g c =
     let t = c.in_ok-trail.ensures.values in
     let d = c.in_ok-decisions.ensures in
     let h = c.in_ok-heights.ensures in
-    let k = standing_none b.values (clauses_of b) (literals_of u) r c.settle-clashed.ensures.exact c.settle-clashed.ensures.answer in (
-      v ∙ sym (c.settle-clashed.ensures.many ∙ t),
-      (
-        (omega (arith, v, d.capacity), omega (arith, v, h.capacity)),
-        (∣ subst₂ (λ ds hs. Standing b.values (clauses_of b) (literals_of u) ds hs r) (sym d.items) (sym h.items) k ∣₁, tt),
-      ),
-    )
+    let k = standing_none b.values (clauses_of b) (literals_of u) r c.settle-clashed.ensures.exact c.settle-clashed.ensures.answer in
+    record {
+      sized = v ∙ sym (c.settle-clashed.ensures.many ∙ t);
+      roomy = (omega (arith, v, d.capacity), omega (arith, v, h.capacity));
+      ok = ∣ subst₂ (λ ds hs. Standing b.values (clauses_of b) (literals_of u) ds hs r) (sym d.items) (sym h.items) k ∣₁;
+    }

@@ -27,13 +27,12 @@ invariant_of-self-in-Some c =
     let p = c.pop-in-Some.ensures.rest ∙ ap (λ n. take (n - 1) (vec_items s.decisions)) s.decisions.ok.0 in
     let u = c.cut.new.self in
     let h = back_holds _ _ _ _ _ _ (standing_of s) _ _ _ c.in-Some.height c.in-Some.ensures.items p c.cut.ensures.literals in
-    let e = apart_calm n cs (clauses_within s.store) (vec_items c.pop-in-Some.new.self) (literals_of u) h (trail_apart u) in (
-      s.sized ∙ sym c.cut.ensures.values,
-      (
-        (omega (arith, s.roomy.0, c.pop-in-Some.ensures.capacity), omega (arith, s.roomy.1, c.pop.ensures.capacity)),
-        (∣ standing_back _ _ _ _ _ _ (standing_of s) _ _ _ c.in-Some.height c.in-Some.ensures.items p c.cut.ensures.literals e ∣₁, tt),
-      ),
-    )
+    let e = apart_calm n cs (clauses_within s.store) (vec_items c.pop-in-Some.new.self) (literals_of u) h (trail_apart u) in
+    record {
+      sized = s.sized ∙ sym c.cut.ensures.values;
+      roomy = (omega (arith, s.roomy.0, c.pop-in-Some.ensures.capacity), omega (arith, s.roomy.1, c.pop.ensures.capacity));
+      ok = ∣ standing_back _ _ _ _ _ _ (standing_of s) _ _ _ c.in-Some.height c.in-Some.ensures.items p c.cut.ensures.literals e ∣₁;
+    }
 
 pub returns-in-None : goal.returns-in-None
 returns-in-None c =
