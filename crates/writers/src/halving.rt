@@ -1,10 +1,23 @@
+ghost use Rattle.std.specs.Prelude.{◌≡◌};
 ghost use Rattle.network.specs.Contents.{meaning};
-ghost use Rattle.writers.specs.Halved.{Halved};
+ghost use Rattle.writers.specs.Halved.{Halved, halves_answer};
 
-use books::HalvesRefusal;
+use books::{HalvesRefusal, WordsRefusal};
 use computed::HalfBook;
 use network::Network;
 use theory::Side;
+
+// What storing both halves answered, with its refusal as one of the halves.
+fn halves_answer(
+    stored: Result<(usize, usize), WordsRefusal>,
+) -> Result<(usize, usize), HalvesRefusal>
+    ensures { result ≡ halves_answer stored }
+{
+    match stored {
+        Ok(taken) => Ok(taken),
+        Err(refusal) => Err(HalvesRefusal::Words(refusal)),
+    }
+}
 
 // Writes the two halves of a table, each as a stored book, and answers how many words each took.
 pub fn write_halves(
@@ -20,10 +33,7 @@ pub fn write_halves(
             let points = network.points();
             let lower = HalfBook::new(points, found, Side::Lower);
             let higher = HalfBook::new(points, found, Side::Higher);
-            match books::store_both(&lower, &higher, low, high) {
-                Ok(taken) => Ok(taken),
-                Err(refusal) => Err(HalvesRefusal::Words(refusal)),
-            }
+            halves_answer(books::store_both(&lower, &higher, low, high))
         }
         None => Err(HalvesRefusal::NoSuch),
     }

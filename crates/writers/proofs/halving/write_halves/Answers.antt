@@ -1,4 +1,4 @@
-use Rattle.std.proofs.Common.{◌≡◌, ℕ, ◌<◌, List, [], length, Ok, Err, vec_items, Result, sym, refl, ap, ◌∙◌, subst₂, arith}
+use Rattle.std.proofs.Common.{◌≡◌, ℕ, ◌<◌, List, [], length, Ok, Err, vec_items, Result, sym, refl, ap, ◌∙◌, subst₂, arith, subst}
 use Rattle.theory.specs.declared.Side.{Side}
 use Rattle.theory.specs.declared.Side.TheVariants.{Lower, Higher}
 use Rattle.theory.specs.Encodings.{half}
@@ -10,11 +10,11 @@ use Rattle.network.specs.Points.{counts_of}
 use Rattle.network.specs.Tables.{table_of}
 use Rattle.network.proofs.Properness.{few_values}
 use Rattle.books.specs.declared.refusal.WordsRefusal.{WordsRefusal}
-use Rattle.books.specs.declared.refusal.WordsRefusal.TheVariants.{NoSuch, TooFewWords, NotStored}
+use Rattle.books.specs.declared.refusal.WordsRefusal.TheVariants.{TooFewWords, NotStored}
 use Rattle.books.specs.Storing.{StoresBoth}
 use Rattle.computed.proofs.AtTable.{table_at, tables_length}
 use Rattle.computed.specs.Scores.{half_at}
-use Rattle.writers.specs.Halved.{Halved}
+use Rattle.writers.specs.Halved.{Halved, halves_answer}
 use Rattle.writers.proofs.Sizes.{few_half_words}
 use Rattle.writers.proofs.halving.write_halves.Goals as goal
 
@@ -25,11 +25,10 @@ half_same ps qs s u t v a b d = λ k. half (counts_of (a k)) (b k) (table_of (d 
 -- two stored halves of a table that is there
 both_halved :
     (net : Network) (k : ℕ) (cs ds : List (List ℕ)) (low low' high high' : List ℕ) (r : Result (ℕ × ℕ) WordsRefusal) →
-    k < length net.tables → cs ≡ half_at net Lower k → ds ≡ half_at net Higher k → StoresBoth cs ds low low' high high' r → Halved net k low low' high high' r
+    k < length net.tables → cs ≡ half_at net Lower k → ds ≡ half_at net Higher k → StoresBoth cs ds low low' high high' r → Halved net k low low' high high' (halves_answer r)
 both_halved net k cs ds low low' high high' (Ok x) h a b s = (h, subst₂ (λ x₁ x₂. StoresBoth x₁ x₂ low low' high high' (Ok x)) a b s)
 both_halved net k cs ds low low' high high' (Err (TooFewWords n)) h a b s =
     (h, subst₂ (λ x₁ x₂. StoresBoth x₁ x₂ low low' high high' (Err (TooFewWords n))) a b s)
-both_halved net k cs ds low low' high high' (Err NoSuch) h a b s = absurd s
 both_halved net k cs ds low low' high high' (Err NotStored) h a b s = absurd s
 
 pub store_both-requires : goal.store_both-requires
@@ -46,20 +45,22 @@ returns-in-Some c =
     let net = c.args.network.now in
     let k = c.args.table in
     let t = c.in-Some.found.now in
-    let found = c.in-Some.ensures.finds in
+    let found = c.in-Some.ensures.lookup in
     let ts = vec_items net.tables in
     let lower = c.new-lower.result in
     let higher = c.new-higher.result in
     let lt : k < length (meaning net).tables = omega (arith, found.3.0, tables_length c.tables.result.now ts c.tables.ensures.value) in
     let at : (s : Side) → half_at (meaning net) s k ≡ half (counts_of net.points) s (table_of t) =
     λ s. table_at c.tables.result.now ts c.tables.ensures.value (half (counts_of net.points) s) k [] t found.3.0 found.1 in
-    let low-is = half_same lower.points.now net.points lower.side Lower lower.table.now t
+    let low_is = half_same lower.points.now net.points lower.side Lower lower.table.now t
     (c.new-lower.ensures.points ∙ c.points-points.ensures) c.new-lower.ensures.side c.new-lower.ensures.table ∙ sym (at Lower) in
     let high_is = half_same higher.points.now net.points higher.side Higher higher.table.now t
     (c.new-higher.ensures.points ∙ c.points-points.ensures) c.new-higher.ensures.side c.new-higher.ensures.table ∙ sym (at Higher) in
-    both_halved (meaning net) k _ _ c.args.low.now c.store_both.new.low c.args.high.now c.store_both.new.high
-    c.store_both.result lt low-is high_is c.store_both.ensures
+    let low = c.store_both.new.low in
+    let high = c.store_both.new.high in
+    subst (Halved (meaning net) k c.args.low.now low c.args.high.now high) (sym c.halves_answer.ensures)
+    (both_halved (meaning net) k _ _ c.args.low.now low c.args.high.now high c.store_both.result lt low_is high_is c.store_both.ensures)
 
 pub returns-in-None : goal.returns-in-None
 returns-in-None c =
-    (omega (arith, c.in-None.ensures.finds.3, tables_length c.tables.result.now (vec_items c.args.network.now.tables) c.tables.ensures.value), (refl, refl))
+    (omega (arith, c.in-None.ensures.lookup.3, tables_length c.tables.result.now (vec_items c.args.network.now.tables) c.tables.ensures.value), (refl, refl))
