@@ -7,7 +7,7 @@ use Rattle.session_commands.proofs.command.decimal.Goals.{then-b-lt48-via-then-b
 
 pub loop-b-init : goal.loop-b-init
 loop-b-init c =
-    let some : length c.args.digits.now ≡ 0 → _ = eqb-false (length c.args.digits.now) 0 (sym c.is-empty.ensures ∙ c.if-is-empty.false) in
+    let some : length c.args.digits.now ≡ 0 → _ = eqb-false (length c.args.digits.now) 0 (sym c.is_empty.ensures ∙ c.if-is_empty.false) in
     (read_start c.args.digits.now (omega (arith, some)), omega arith)
 
 pub returns-then-b-lt48 : goal.returns-then-b-lt48
@@ -20,8 +20,8 @@ returns-then-b-lt48 c =
 pub loop-b-preserved : goal.loop-b-preserved
 loop-b-preserved c =
     let b = get_or c.args.digits.now c.loop-b.b-index 0 in
-    let sum : c.saturating-add-n.result ≡ min (10 * c.loop-b.n + (b - 48)) most = omega (arith, c.saturating-add-n.ensures, c.saturating-mul.ensures) in (
-      read_more c.args.digits.now c.loop-b.b-index c.loop-b.n c.saturating-add-n.result b c.loop-b-test.true refl c.if-b-lt48.false c.if-b-gt57.false sum ∙
+    let sum : c.saturating_add-n.result ≡ min (10 * c.loop-b.n + (b - 48)) most = omega (arith, c.saturating_add-n.ensures, c.saturating_mul.ensures) in (
+      read_more c.args.digits.now c.loop-b.b-index c.loop-b.n c.saturating_add-n.result b c.loop-b-test.true refl c.if-b-lt48.false c.if-b-gt57.false sum ∙
           c.loop-b.invariant.0,
       omega arith,
     )

@@ -10,8 +10,8 @@ loop-i-preserved g c =
     let cs = g.B.ClauseBook.clauses c.args.book.now in
     let i = c.loop-i.i in
     let lt : i < length cs = omega (arith, c.count-count.ensures, c.loop-i-test.true) in
-    piece_more clause_text (decimal (length cs) ++ codes "\n") cs i (get_or cs i []) (string_bytes c.loop-i.out) (string_bytes c.push-clause.new.out) lt
-    (get_or_default cs i [] (get_or cs i []) lt) c.loop-i.invariant c.in_ok-push-clause.ensures
+    piece_more clause_text (decimal (length cs) ++ codes "\n") cs i (get_or cs i []) (string_bytes c.loop-i.out) (string_bytes c.push_clause.new.out) lt
+    (get_or_default cs i [] (get_or cs i []) lt) c.loop-i.invariant c.in_ok-push_clause.ensures
 
 pub returns : goal.returns
 returns g c =

@@ -16,9 +16,9 @@ loop-j-preserved g c =
     let next : j - 1 + 1 ≡ j + 1 - 1 = omega arith in
     let is : x ≡ get_or (drop 1 cl) (j - 1) x =
     c.literal.ensures ∙ get_or_default cl j 0 x lt ∙ ap (λ k. get_or cl k x) (sym same) ∙ sym (get_or-drop 1 cl (j - 1) x) in
-    piece_more (λ l. codes " " ++ decimal l) (string_bytes c.args.out.now) (drop 1 cl) (j - 1) x was (string_bytes c.push-number.new.out)
+    piece_more (λ l. codes " " ++ decimal l) (string_bytes c.args.out.now) (drop 1 cl) (j - 1) x was (string_bytes c.push_number.new.out)
     (omega (arith, length-drop 1 cl)) is c.loop-j.invariant
-    (c.in_ok-push-number.ensures ∙ ap (λ t. t ++ decimal x) c.in_ok-push-str.ensures.bytes ∙ append_assoc was (codes " ") (decimal x)) ∙
+    (c.in_ok-push_number.ensures ∙ ap (λ t. t ++ decimal x) c.in_ok-push_str.ensures.bytes ∙ append_assoc was (codes " ") (decimal x)) ∙
     ap (λ k. string_bytes c.args.out.now ++ spaced (take k (drop 1 cl))) next
 
 pub returns : goal.returns

@@ -9,16 +9,16 @@ mark-requires c =
     let f = c.in_ok-n.ensures.found in
     record { within = found_below s _ _ _ f; calm = found_calm s _ _ _ f }
 
-pub is-out-requires : goal.is-out-requires
-is-out-requires c = found_small c.args.self.now _ _ _ c.in_ok-n.ensures.found
+pub is_out-requires : goal.is_out-requires
+is_out-requires c = found_small c.args.self.now _ _ _ c.in_ok-n.ensures.found
 
 pub decide-requires : goal.decide-requires
 decide-requires c =
     let s = c.args.self.now in
     let f = c.in_ok-n.ensures.found in
-    let half : c.is-out.result / 2 ≡ c.in_ok-n.n = omega (arith, c.is-out.ensures) in
+    let half : c.is_out.result / 2 ≡ c.in_ok-n.n = omega (arith, c.is_out.ensures) in
     record {
-      within = omega (arith, c.is-out.ensures, found_below s _ _ _ f);
+      within = omega (arith, c.is_out.ensures, found_below s _ _ _ f);
       calm = found_calm s _ _ _ f;
       fresh = ap (mark_in (state_of s.inner)) half ∙ sym c.mark.ensures ∙ c.in-Open.is;
     }

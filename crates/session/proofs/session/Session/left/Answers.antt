@@ -10,8 +10,8 @@ use Rattle.session.proofs.Finding.{few_all, all_below, all_calm, all_mark, all_a
 use Rattle.session.proofs.session.Session.left.Goals as goal
 use Rattle.session.proofs.session.Session.left.Goals.{in-Out, in-In}
 
-pub overflow-add-first : goal.overflow-add-first
-overflow-add-first c = omega (arith, all_below c.args.self.now _ _ _ c.in_ok-first.ensures.found c.loop-v.v c.loop-v-test.true, few_all c.args.self.now, c.args.self.now.sized)
+pub overflow_add-first : goal.overflow_add-first
+overflow_add-first c = omega (arith, all_below c.args.self.now _ _ _ c.in_ok-first.ensures.found c.loop-v.v c.loop-v-test.true, few_all c.args.self.now, c.args.self.now.sized)
 
 pub mark-requires : goal.mark-requires
 mark-requires c =

@@ -16,8 +16,8 @@ loop-v-init c =
     let f : ℕ → Bool = λ k. marks_in (mark_at (state_of c.args.self.now) c.args.point k) in
     ap (λ n. first_of f (range_with_len 0 n)) (sym (sub-zero c.in_ok-first.count))
 
-pub overflow-add-first : goal.overflow-add-first
-overflow-add-first c = omega (arith, all_below c.args.self.now _ _ _ c.in_ok-first.ensures.found c.loop-v.v c.loop-v-test.true, few_all c.args.self.now, c.args.self.now.sized)
+pub overflow_add-first : goal.overflow_add-first
+overflow_add-first c = omega (arith, all_below c.args.self.now _ _ _ c.in_ok-first.ensures.found c.loop-v.v c.loop-v-test.true, few_all c.args.self.now, c.args.self.now.sized)
 
 pub mark-requires : goal.mark-requires
 mark-requires c =

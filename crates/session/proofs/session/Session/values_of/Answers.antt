@@ -7,10 +7,10 @@ use Rattle.session.proofs.session.Session.values_of.Goals as goal
 pub returns-then-point-len : goal.returns-then-point-len
 returns-then-point-len c = record { answer = no_point c.args.self.now c.args.point _ (omega (arith, c.len.ensures, c.if-point-len.true)); found = tt }
 
-pub returns-then-has-clash : goal.returns-then-has-clash
-returns-then-has-clash c =
+pub returns-then-has_clash : goal.returns-then-has_clash
+returns-then-has_clash c =
     record {
-      answer = point_clash c.args.self.now c.args.point _ (omega (arith, c.len.ensures, c.if-point-len.false)) c.if-has-clash.ensures;
+      answer = point_clash c.args.self.now c.args.point _ (omega (arith, c.len.ensures, c.if-point-len.false)) c.if-has_clash.ensures;
       found = tt;
     }
 
@@ -22,6 +22,6 @@ returns c =
     let many = c.count.ensures.value ∙ ap (λ ps. count (values_of (entries ps)) p) c.deref-2.ensures.value in
     record {
       answer =
-          (λ i. Ok (from i, many i)) ∙ point_calm s p _ (omega (arith, c.len.ensures, c.if-point-len.false)) c.if-has-clash.ensures;
-      found = record { there = omega (arith, many_points s, c.len.ensures, c.if-point-len.false); calm = clash_same s ∙ sym c.if-has-clash.ensures; begins = from; counts = many };
+          (λ i. Ok (from i, many i)) ∙ point_calm s p _ (omega (arith, c.len.ensures, c.if-point-len.false)) c.if-has_clash.ensures;
+      found = record { there = omega (arith, many_points s, c.len.ensures, c.if-point-len.false); calm = clash_same s ∙ sym c.if-has_clash.ensures; begins = from; counts = many };
     }
