@@ -19,7 +19,7 @@ pub fn play<B: ClauseBook, C: Caller>(
     book: &B,
     caller: &mut C,
 ) -> Result<(), OpenError>
-    ensures { OnOk result ((xs : List Exchange) → heard caller.old xs → (ys : List Exchange) × finished caller.new (xs ++ ys) × Promise (points_of points.now) (B.clauses book.now) ys) }
+    ensures { OnOk result ((xs : List Exchange) → C.heard caller.old xs → (ys : List Exchange) × C.finished caller.new (xs ++ ys) × Promise (points_of points.now) (B.clauses book.now) ys) }
 {
     let mut session = Session::new(heap);
     session.open(heap, points, book)?;

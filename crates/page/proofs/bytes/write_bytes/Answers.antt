@@ -9,6 +9,6 @@ returns c =
     let out = c.args.out.now in
     let at = c.args.at in (
       refl,
-      put_mid-paste at _ out c.copy-from-slice.new.self text (length text) c.copy-from-slice.ensures.after (omega arith) refl ∙
+      put_mid-paste at _ out c.copy_from_slice.new.self text (length text) c.copy_from_slice.ensures.after (omega arith) refl ∙
           ap (λ t. (take at out ++ t) ++ drop (at + length text) out) (take_all (length text) text (omega arith)),
     )

@@ -10,8 +10,8 @@ use Rattle.page.proofs.Joining.{placed_both}
 use Rattle.page.proofs.Lengths.{joined_up, fits_joined}
 use Rattle.page.proofs.lines.write_lines.Goals as goal
 
-pub write-line-at-requires : goal.write-line-at-requires
-write-line-at-requires c =
+pub write_line-at-requires : goal.write_line-at-requires
+write_line-at-requires c =
     let s = c.args.session.now in
     let ps = vec_items s.points in
     let i = c.loop-point.point in
@@ -27,8 +27,8 @@ pub loop-point-preserved : goal.loop-point-preserved
 loop-point-preserved c =
     let f = line_text (state_of c.args.session.now) in
     let i = c.loop-point.point in
-    let P : List ℕ → Type 0 = λ t. Placed t 0 c.args.out.now c.write-line-at.new.out c.write-line-at.result in
-    subst P (sym (joined_up f i)) (placed_both (flat_map f (range_with_len 0 i)) (f i) _ _ _ 0 _ _ (omega arith) c.loop-point.invariant c.write-line-at.ensures)
+    let P : List ℕ → Type 0 = λ t. Placed t 0 c.args.out.now c.write_line-at.new.out c.write_line-at.result in
+    subst P (sym (joined_up f i)) (placed_both (flat_map f (range_with_len 0 i)) (f i) _ _ _ 0 _ _ (omega arith) c.loop-point.invariant c.write_line-at.ensures)
 
 pub returns : goal.returns
 returns c =

@@ -10,7 +10,7 @@ returns c =
     let text = page_text (state_of c.args.session.now) in
     let bytes = c.in_ok-bytes.bytes in
     let long = c.in_ok-bytes.ensures.len in
-    let same = ap length c.deref-mut.ensures.value in
-    let new = written_whole text c.deref-mut.result.now c.write-page.new.out c.write-page.result (omega (arith, c.page-length-size.ensures, bytes.ok.0)) c.write-page.ensures in
-    take_at c.write-page.new.out (drop (length c.write-page.new.out) bytes.items) bytes.len (omega (arith, ap length new, c.page-length-size.ensures)) ∙
+    let same = ap length c.deref_mut.ensures.value in
+    let new = written_whole text c.deref_mut.result.now c.write_page.new.out c.write_page.result (omega (arith, c.page_length-size.ensures, bytes.ok.0)) c.write_page.ensures in
+    take_at c.write_page.new.out (drop (length c.write_page.new.out) bytes.items) bytes.len (omega (arith, ap length new, c.page_length-size.ensures)) ∙
     new

@@ -20,8 +20,8 @@ loop-call-init g c =
       m.capacity,
     )
 
-pub push-reserved-requires : goal.push-reserved-requires
-push-reserved-requires g c =
+pub push_reserved-requires : goal.push_reserved-requires
+push_reserved-requires g c =
     let log = vec_items c.loop-call.log in
     let i = c.loop-call.call-index in
     let lt : i ≤ length c.args.calls.now = omega (arith, c.loop-call-test.true) in
@@ -36,12 +36,12 @@ loop-call-preserved g c =
     let calls = c.args.calls.now in
     let i = c.loop-call.call-index in
     let inv = c.loop-call.invariant in
-    let more = sym c.push-reserved.ensures.items in (
+    let more = sym c.push_reserved.ensures.items in (
       sym (ap (map call_of) more) ∙ map_push call_of log x ∙ ap (λ l. l ++ call_of x ∷ []) inv.0 ∙ ap (λ a. take i calls ++ a ∷ []) c.perform.ensures.call ∙
           sym (take_more calls i _ c.loop-call-test.true),
       after (state_of c.loop-call.session) (state_of c.perform.new.self) ps cs log x inv.1 c.perform.ensures.state ∙ ap (state_after ps cs) more,
       subst (Exact ps cs) more (exact_push ps cs log x inv.2 (subst (λ s. Right s x) inv.1 c.perform.ensures.answer)),
-      omega (arith, inv.3, c.push-reserved.ensures.capacity),
+      omega (arith, inv.3, c.push_reserved.ensures.capacity),
     )
 
 pub returns : goal.returns
