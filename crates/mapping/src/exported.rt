@@ -5,9 +5,8 @@ ghost use Rattle.mapping.specs.Maps.{Maps, answer_of};
 use crate::{MapError, write_map};
 use std::alloc::Global;
 
-// The page of a network file for a program in C: its length, or the number of the refusal with a minus sign.
-#[unsafe(no_mangle)]
-pub extern "C" fn hazhgiti_map(heap: Global, file: &[u8], page: &mut [u8]) -> i64
+// The page of a network file as the export for C answers it: its length, or the number of the refusal with a minus sign.
+pub fn hazhgiti_map(heap: Global, file: &[u8], page: &mut [u8]) -> i64
     ensures { (q : Result ℕ MapError) × Maps (read_file file.now) page.old page.new q × (result ≡ answer_of q) }
 {
     match write_map(heap, file, page) {

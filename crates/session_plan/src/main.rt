@@ -18,7 +18,7 @@ use theory::Encoding;
 // Plays what is asked on standard input over a network's clauses.
 fn play<'a>(rt: &'a HostRuntime, network: &'a Network, encoding: Encoding) -> anyhow::Result<()> {
     let book = ComputedBook::new(network, encoding);
-    let mut terminal = Terminal::new(rt, network);
+    let mut terminal = Terminal::new(rt, network)?;
     match runs::play(rt.alloc(), network.points(), &book, &mut terminal) {
         Ok(()) => terminal.finish(),
         Err(OpenError::Unfit) => {

@@ -22,14 +22,14 @@ pub struct Terminal<'a> {
 
 impl<'a> Terminal<'a> {
     // The terminal of a program that has read a network.
-    pub(crate) fn new(rt: &'a HostRuntime, network: &'a Network) -> Terminal<'a> {
-        Terminal {
+    pub(crate) fn new(rt: &'a HostRuntime, network: &'a Network) -> anyhow::Result<Terminal<'a>> {
+        Ok(Terminal {
             rt,
             network,
-            lines: BufReader::new(rt.stdin()).split(rt.alloc(), b'\n'),
+            lines: BufReader::new(rt.alloc(), rt.stdin())?.split(rt.alloc(), b'\n'),
             left: u64::MAX,
             failed: None,
-        }
+        })
     }
 
     // What went wrong, if anything did.

@@ -1,5 +1,5 @@
 use Rattle.std.proofs.Common.{◌≤◌}
-use Rattle.plan.proofs.terminal.TerminalCaller.next.Given as goal
+use Rattle.session_plan.proofs.terminal.TerminalCaller.next.Given as goal
 
 abbrev pub invariant-loop-self : goal.invariant-loop-self
 invariant-loop-self l = l.self.left ≤ l.initial.self.left
