@@ -1,6 +1,6 @@
 -- Words that are written one after the other.
 use Rattle.std.proofs.Common.{◌≡◌, ℕ, zero, suc, ◌+◌, ◌<◌, ◌≤◌, List, [], ◌∷◌, ◌++◌, length, get_or, take, drop, set, sym, refl, ap, ◌∙◌, arith}
-use Rattle.std.proofs.lemmas.List.{append_assoc, append-nil, drop_more, set_at, take_more, take_all, length_push, length-append, length-take, length-take-le, drop-drop, drop_at, take_at}
+use Rattle.std.proofs.lemmas.List.{append_assoc, append-nil, drop_more, set_at, take_more, length-append, drop-drop, drop_at, take_at}
 use Rattle.books.specs.Stored.{row, ends_from}
 
 -- one word more behind those that are written

@@ -1,7 +1,7 @@
 -- The stored form of clauses is a stored book of these clauses, whatever stands behind it.
-use Rattle.std.proofs.Common.{◌≡◌, ℕ, zero, suc, ◌+◌, ◌-◌, ◌<◌, ◌≤◌, List, [], ◌∷◌, ◌++◌, length, get_or, take, drop, sym, refl, ap, ◌∙◌, add-one, one-add, arith}
+use Rattle.std.proofs.Common.{◌≡◌, ℕ, zero, suc, ◌+◌, ◌-◌, ◌<◌, List, [], ◌∷◌, ◌++◌, length, get_or, take, drop, sym, refl, ap, ◌∙◌, add-one, one-add, arith}
 use Rattle.std.proofs.lemmas.List.{append_assoc, ext_get_or, get_or_append_left, take_at, drop_at, length-append, drop_more, take-append-drop}
-use Rattle.books.specs.Stored.{count_of, end_of, start_of, clause_of, clauses_of, IsStored, row, ends_from, stored_form}
+use Rattle.books.specs.Stored.{end_of, start_of, clause_of, clauses_of, IsStored, row, ends_from, stored_form}
 use Rattle.books.proofs.Filling.{row_append, row_more, row_front, length_ends, end_at}
 use Rattle.books.proofs.Words.{many, clause_at}
 

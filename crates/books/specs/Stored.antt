@@ -1,5 +1,5 @@
 -- The stored layout: the clause count C, then the places just past each clause's last literal, then the literals.
-use Rattle.std.specs.Prelude.{◌≡◌, ℕ, zero, suc, ◌+◌, ◌-◌, ◌<◌, ◌≤◌, List, [], ◌∷◌, ◌++◌, map, length, take, drop, slice_index}
+use Rattle.std.specs.Prelude.{ℕ, zero, suc, ◌+◌, ◌-◌, ◌<◌, ◌≤◌, List, [], ◌∷◌, ◌++◌, map, length, take, drop, slice_index}
 use Rattle.std.specs.List.{range_with_len}
 
 -- the clause count C: 0 where there is no word

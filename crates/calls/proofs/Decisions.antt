@@ -1,10 +1,10 @@
 -- The decisions that stand after a run: literals of the points' values, none twice.
-use Rattle.std.proofs.Common.{◌≡◌, ℕ, ◌-◌, ◌*◌, ◌<◌, Bool, true, false, cond, ltb, ◌⊎◌, List, [], ◌∷◌, ◌++◌, length, take, Ok, Err, Result, sym, refl, ap, ◌∙◌, subst, inl, inr, ⊎_elim, arith}
+use Rattle.std.proofs.Common.{◌≡◌, ℕ, ◌-◌, ◌*◌, ◌<◌, Bool, true, false, cond, ltb, ◌⊎◌, List, [], ◌∷◌, ◌++◌, length, Ok, Err, Result, sym, refl, ap, ◌∙◌, subst, inl, inr, ⊎_elim, arith}
 use Rattle.std.proofs.lemmas.Bool.{ltb-true, both_ways}
 use Rattle.theory.specs.declared.Mark.{Mark}
 use Rattle.theory.specs.declared.Mark.TheVariants.{In, Out, Open}
 use Rattle.theory.specs.Laws.{DecisionsWithin}
-use Rattle.theory.specs.Lists.{◌∈◌, has}
+use Rattle.theory.specs.Lists.{has}
 use Rattle.theory.specs.Literals.{is_in, is_out}
 use Rattle.theory.specs.Numbering.{count, total, number}
 use Rattle.theory.specs.Reached.{reached_set}
@@ -13,14 +13,14 @@ use Rattle.theory.proofs.Numbering.{number_below}
 use Rattle.theory.proofs.Reaching.{set_decided}
 use Rattle.network.specs.Points.{Entry, values_of}
 use Rattle.calls.specs.declared.call.Decided.{Decided}
-use Rattle.calls.specs.declared.call.Decided.TheVariants.{Taken, Clash as Clashing, Already}
+use Rattle.calls.specs.declared.call.Decided.TheVariants.{Taken, Clash as Clashing}
 use Rattle.calls.specs.declared.call.Exchange.{Exchange}
 use Rattle.calls.specs.declared.call.Exchange.TheVariants.{Choose, Bar, Withdraw, Mark as MarkOf, Left, Value, Decisions, Clash}
 use Rattle.calls.specs.declared.refusal.CallRefusal.{CallRefusal}
-use Rattle.calls.specs.declared.refusal.CallRefusal.TheVariants.{NoSuch, MarkedOut, MarkedIn, TooMany, Clashed}
+use Rattle.calls.specs.declared.refusal.CallRefusal.TheVariants.{NoSuch, TooMany, Clashed}
 use Rattle.calls.specs.States.{State, counts_of, is_clashed, mark_at, has_value, under}
 use Rattle.calls.specs.Replies.{most_decisions, checked, decide_reply, choose_marked, bar_marked, choose_reply, bar_reply}
-use Rattle.calls.specs.Runs.{after_decided, after_withdrawn, stands_after, standing, Right, Exact}
+use Rattle.calls.specs.Runs.{after_decided, stands_after, standing, Right, Exact}
 use Rattle.calls.proofs.Distinct.{Distinct, distinct_push, distinct_take, all_take}
 
 -- literals of the points' values, none twice

@@ -1,5 +1,5 @@
 -- The promise of a run, from the laws of the reached set.
-use Rattle.std.proofs.Common.{◌≡◌, ℕ, ◌<◌, Bool, true, false, not, ◌⊎◌, List, [], ◌∷◌, ◌++◌, length, get_or, Ok, Err, Decides, filter, sym, refl, ap, ◌∙◌, subst, inl, inr, ⊎_elim, append_assoc, arith}
+use Rattle.std.proofs.Common.{◌≡◌, ℕ, ◌<◌, true, false, not, ◌⊎◌, List, [], ◌∷◌, ◌++◌, length, get_or, Ok, Err, filter, sym, refl, ap, ◌∙◌, subst, inl, inr, ⊎_elim, append_assoc, arith}
 use Rattle.std.proofs.lemmas.Bool.{lt-ltb, cases_Bool, cases_eq}
 use Rattle.theory.specs.declared.Encoding.TheVariants.{Support}
 use Rattle.theory.specs.declared.Mark.{Mark}
@@ -13,14 +13,14 @@ use Rattle.theory.specs.Marks.{clashed, mark}
 use Rattle.theory.specs.Network.{Network, Proper, Solution}
 use Rattle.theory.specs.Numbering.{count, total, number, values}
 use Rattle.theory.proofs.Families.{strikes_exactly, clashes_exactly}
-use Rattle.theory.proofs.Numbering.{find_place, point_below}
+use Rattle.theory.proofs.Numbering.{find_place}
 use Rattle.theory.proofs.Order.{order_is_unseen}
 use Rattle.theory.proofs.Solutions.{never_marked_out, makes_the_solution_in}
 use Rattle.network.specs.Points.{Entry, values_of}
 use Rattle.calls.specs.declared.call.Exchange.{Exchange}
 use Rattle.calls.specs.declared.refusal.CallRefusal.TheVariants.{Clashed}
 use Rattle.calls.specs.States.{State, counts_of, is_clashed, mark_at, has_point, has_value}
-use Rattle.calls.specs.Replies.{checked, mark_reply, left_reply, value_reply, clash_reply, marks_out, marks_in, first_of}
+use Rattle.calls.specs.Replies.{checked, mark_reply, marks_out, marks_in, first_of}
 use Rattle.calls.specs.Runs.{standing, state_after, Exact}
 use Rattle.calls.specs.Promise.{ArcConsistent, KeepsSolutions, AnswersAlike, AllMarked, Promise}
 use Rattle.calls.proofs.Distinct.{no_longer}

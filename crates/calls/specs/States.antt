@@ -1,5 +1,5 @@
 -- What a session stands on, and what its reached set says.
-use Rattle.std.specs.Prelude.{ℕ, Bool, List, [], ◌∷◌, ◌++◌, length, nat_lt}
+use Rattle.std.specs.Prelude.{ℕ, Bool, List, [], length, nat_lt}
 use Rattle.theory.specs.declared.Mark.{Mark}
 use Rattle.theory.specs.Marks.{clashed, mark}
 use Rattle.theory.specs.Numbering.{count, total, number}

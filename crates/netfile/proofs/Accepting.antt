@@ -1,8 +1,7 @@
 -- A file is accepted exactly when it is the written form of a listing that keeps the bounds.
-use Rattle.std.proofs.Common.{◌≡◌, ℕ, ◌/◌, ◌<◌, ◌≤◌, List, [], ◌∷◌, ◌++◌, map, length, get_or, Ok, sym, refl, ap, ◌∙◌, subst, inl, inr, arith}
+use Rattle.std.proofs.Common.{◌≡◌, ℕ, ◌/◌, ◌<◌, ◌≤◌, List, ◌++◌, length, get_or, Ok, sym, refl, ap, ◌∙◌, subst, inl, inr, arith}
 use Rattle.std.specs.List.{flat_map}
 use Rattle.std.proofs.lemmas.List.{length-map}
-use Rattle.theory.specs.Lists.{◌∈◌}
 use Rattle.theory.proofs.Members.{in_right, at_in}
 use Rattle.network.specs.Bounds.{PointsWithin, most_tables}
 use Rattle.network.specs.Contents.{Contents}

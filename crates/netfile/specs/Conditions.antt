@@ -1,5 +1,5 @@
 -- The condition of each refusal that a file can meet, and the law that the first faulty record decides, lowest number first.
-use Rattle.std.specs.Prelude.{◌≡◌, ℕ, ◌+◌, ◌*◌, ◌^◌, ◌<◌, ◌≤◌, true, cond, ◌⊎◌, List, [], ◌∷◌, ◌++◌, length, drop, None, Err, ◌≢◌, nat_le, slice_index}
+use Rattle.std.specs.Prelude.{◌≡◌, ℕ, ◌+◌, ◌*◌, ◌<◌, ◌≤◌, true, cond, ◌⊎◌, List, [], ◌∷◌, ◌++◌, length, drop, None, Err, ◌≢◌, nat_le, slice_index}
 use Rattle.std.specs.List.{flat_map}
 use Rattle.theory.specs.Lists.{◌∈◌}
 use Rattle.theory.specs.Network.{allows}
@@ -7,7 +7,7 @@ use Rattle.theory.specs.Numbering.{count}
 use Rattle.network.specs.declared.refusal.Refusal.{Refusal}
 use Rattle.network.specs.declared.refusal.Refusal.TheVariants.{Truncated, UnknownKind, BadHead, BadPoint, BadTable, Misplaced, MissingPoint, MissingValue, RepeatedPair, WrongCount, TrailingBytes}
 use Rattle.network.specs.Bounds.{most_tables, PointWithin, PointsWithin}
-use Rattle.network.specs.Points.{Entry, values_of}
+use Rattle.network.specs.Points.{values_of}
 use Rattle.network.specs.Refusals.{number_of}
 use Rattle.netfile.specs.declared.fault.Fault.{Fault}
 use Rattle.netfile.specs.declared.fault.Layer.{Layer}

@@ -1,5 +1,5 @@
 -- The network layer: what may come next, what a record may say there, and the network that a file lists.
-use Rattle.std.specs.Prelude.{ℕ, zero, suc, ◌+◌, ◌-◌, Bool, true, false, cond, ◌&&◌, ◌||◌, List, [], ◌∷◌, ◌++◌, length, Some, None, Ok, Err, Option, Result, ◌==◌, nat_lt, slice_index_or, slice_set}
+use Rattle.std.specs.Prelude.{ℕ, zero, suc, ◌+◌, ◌-◌, Bool, false, cond, ◌&&◌, ◌||◌, List, [], ◌∷◌, ◌++◌, length, Some, None, Ok, Err, Option, Result, ◌==◌, nat_lt, slice_index_or, slice_set}
 use Rattle.theory.specs.Network.{Table as TableMeaning, allows}
 use Rattle.theory.specs.Numbering.{count}
 use Rattle.network.specs.declared.refusal.Refusal.{Refusal}

@@ -1,5 +1,5 @@
 -- What a table says, and what every table of a network keeps.
-use Rattle.std.specs.Prelude.{◌≡◌, ℕ, ◌<◌, Bool, true, false, List, [], ◌∷◌, map, length, replicate, slice_index_or, slice_set}
+use Rattle.std.specs.Prelude.{◌≡◌, ℕ, ◌<◌, Bool, true, false, List, [], map, length, replicate, slice_index_or, slice_set}
 use Rattle.theory.specs.Lists.{◌∈◌}
 use Rattle.theory.specs.Numbering.{count}
 use Rattle.theory.specs.Network.{Table as TableMeaning, allows}

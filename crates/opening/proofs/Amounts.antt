@@ -1,6 +1,5 @@
 -- How many clauses a network within the bounds has, and how many literals a support clause.
-use Rattle.std.proofs.Common.{ℕ, ◌+◌, ◌*◌, ◌≤◌, List, [], ◌∷◌, length, filter, mul-le-mul_right, arith}
-use Rattle.std.specs.List.{flat_map}
+use Rattle.std.proofs.Common.{ℕ, ◌+◌, ◌≤◌, List, length, filter, mul-le-mul_right, arith}
 use Rattle.std.proofs.lemmas.List.FromFn.{length-range_with_len, length-map-range_with_len}
 use Rattle.std.proofs.lemmas.List.{length-append, length-map}
 use Rattle.theory.specs.declared.Encoding.{Encoding}

@@ -1,5 +1,5 @@
 -- The clauses of a network within the bounds are fit.
-use Rattle.std.proofs.Common.{◌≡◌, ℕ, zero, suc, ◌*◌, ◌<◌, ◌≤◌, Bool, not, List, [], ◌∷◌, ◌++◌, length, get_or, filter, sym, refl, subst, inl, inr, ⊎_elim, arith}
+use Rattle.std.proofs.Common.{◌≡◌, ℕ, ◌*◌, ◌<◌, ◌≤◌, Bool, not, List, [], ◌++◌, length, get_or, filter, sym, subst, ⊎_elim, arith}
 use Rattle.std.proofs.lemmas.List.FromFn.{length-map-range_with_len}
 use Rattle.theory.specs.declared.Encoding.{Encoding}
 use Rattle.theory.specs.declared.Encoding.TheVariants.{Direct, Support, MinimalSupport}

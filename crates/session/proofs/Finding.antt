@@ -1,10 +1,9 @@
 -- What a value that was found says of the propagator within a session.
-use Rattle.std.proofs.Common.{◌≡◌, ℕ, ◌+◌, ◌*◌, ◌<◌, ◌≤◌, true, false, List, length, Err, vec_items, vec_len, Result, sym, ap, ◌∙◌, arith}
+use Rattle.std.proofs.Common.{◌≡◌, ℕ, ◌+◌, ◌<◌, ◌≤◌, true, false, length, Err, vec_items, vec_len, Result, sym, ap, ◌∙◌, arith}
 use Rattle.std.proofs.lemmas.List.{length-map}
 use Rattle.std.proofs.lemmas.Bool.{lt-ltb, le-ltb}
-use Rattle.theory.specs.declared.Mark.{Mark}
 use Rattle.theory.specs.Marks.{clashed, mark}
-use Rattle.theory.specs.Numbering.{count, offset, total, number}
+use Rattle.theory.specs.Numbering.{count, total, number}
 use Rattle.theory.proofs.Numbering.{number_below}
 use Rattle.network.specs.Points.{entry_of}
 use Rattle.network.proofs.Properness.{few_total}

@@ -1,5 +1,5 @@
 -- Which clauses the support encoding has.
-use Rattle.std.proofs.Common.{◌≡◌, ℕ, ◌+◌, ◌-◌, ◌<◌, List, ◌++◌, map, length, sym, subst, ⊎_elim, arith}
+use Rattle.std.proofs.Common.{ℕ, ◌+◌, ◌-◌, ◌<◌, List, ◌++◌, length, sym, subst, ⊎_elim, arith}
 use Rattle.std.specs.List.{range_with_len, flat_map}
 use Rattle.theory.specs.declared.Encoding.TheVariants.{Support}
 use Rattle.theory.specs.declared.Side.{Side}

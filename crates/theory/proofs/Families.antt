@@ -1,9 +1,7 @@
 -- Over the support clauses, unit propagation strikes exactly what no arc-consistent family holds.
-use Rattle.std.proofs.Common.{◌≡◌, ℕ, ◌+◌, ◌*◌, ◌/◌, ◌%◌, ◌<◌, ◌≤◌, Bool, true, false, cond, not, ◌⊎◌, List, [], ◌∷◌, map, length, filter, sym, refl, ap, ◌∙◌, subst, subst₂, inl, inr, ⊎_elim, arith}
-use Rattle.std.proofs.lemmas.Bool.{cases_eq, cases_Bool, cases_order, both_ways, not-true, not-false, cond-true, cond-false}
+use Rattle.std.proofs.Common.{◌≡◌, ℕ, ◌*◌, ◌/◌, ◌%◌, ◌<◌, Bool, true, false, not, List, ◌∷◌, map, length, filter, sym, refl, ap, ◌∙◌, subst, subst₂, inl, inr, ⊎_elim, arith}
+use Rattle.std.proofs.lemmas.Bool.{cases_eq, cases_Bool, cases_order, both_ways, not-true, not-false}
 use Rattle.theory.specs.declared.Encoding.TheVariants.{Support}
-use Rattle.theory.specs.declared.Mark.{Mark}
-use Rattle.theory.specs.declared.Mark.TheVariants.{In, Out, Open}
 use Rattle.theory.specs.declared.Side.{Side}
 use Rattle.theory.specs.declared.Side.TheVariants.{Lower, Higher}
 use Rattle.theory.specs.Lists.{◌∈◌, has}
@@ -12,13 +10,12 @@ use Rattle.theory.specs.Literals.{is_in, is_out, opposite, Within}
 use Rattle.theory.specs.Network.{Table, Network, Proper, near, far, partner}
 use Rattle.theory.specs.Encodings.{some_clause, not_both, support_clause, clauses}
 use Rattle.theory.specs.Reached.{reached_set}
-use Rattle.theory.specs.Marks.{clashed, mark, mark_of}
-use Rattle.theory.specs.Families.{Permitted, Family, Empties}
+use Rattle.theory.specs.Families.{Family, Empties}
 use Rattle.theory.specs.Laws.{DecisionsWithin, StrikesExactly, ClashesExactly}
 use Rattle.theory.proofs.Members.{in_map, map_in, in_kept, kept_in, some_or_none, upto_in, in_upto}
 use Rattle.theory.proofs.Numbering.{opposite_in, opposite_out, same_place, number_below, find_place}
 use Rattle.theory.proofs.Clauses.{OneForm, at_least, at_most, Form, one, support, form_of, of_form}
-use Rattle.theory.proofs.Reaching.{Reached, decided, forced, set_reached, reached_set_lem, clash_from, clash_to, no_opposite}
+use Rattle.theory.proofs.Reaching.{Reached, decided, forced, set_reached, reached_set_lem, clash_from, clash_to}
 use Rattle.theory.proofs.Marking.{out_mark, mark_out}
 
 -- the support clause of the value i of p: one of the values of q that pass the test is in, or i is out

@@ -1,12 +1,12 @@
 -- What a mark says of the reached set.
-use Rattle.std.proofs.Common.{◌≡◌, ℕ, Bool, true, false, cond, List, sym, refl, ap, ◌∙◌, arith}
+use Rattle.std.proofs.Common.{◌≡◌, ℕ, Bool, true, false, cond, List, refl}
 use Rattle.std.proofs.lemmas.Bool.{both_ways}
 use Rattle.theory.specs.declared.Mark.{Mark}
 use Rattle.theory.specs.declared.Mark.TheVariants.{In, Out, Open}
 use Rattle.theory.specs.Lists.{has}
-use Rattle.theory.specs.Literals.{is_in, is_out, opposite}
+use Rattle.theory.specs.Literals.{is_in, is_out}
 use Rattle.theory.specs.Reached.{reached_set}
-use Rattle.theory.specs.Marks.{opposed, clashed, mark, mark_of}
+use Rattle.theory.specs.Marks.{clashed, mark}
 use Rattle.theory.proofs.Numbering.{opposite_in}
 use Rattle.theory.proofs.Reaching.{no_opposite}
 

@@ -1,8 +1,8 @@
 -- Each number below the total is the number of one value of one point.
-use Rattle.std.proofs.Common.{◌≡◌, ℕ, zero, suc, ◌+◌, ◌-◌, ◌*◌, ◌<◌, ◌≤◌, ◌⊎◌, List, [], ◌∷◌, length, get_or, sym, refl, ap, ◌∙◌, inl, inr, ⊎_elim, arith}
+use Rattle.std.proofs.Common.{◌≡◌, ℕ, zero, suc, ◌-◌, ◌<◌, ◌≤◌, List, [], ◌∷◌, length, refl, ap, ⊎_elim, arith}
 use Rattle.std.proofs.lemmas.Bool.{cases_lt}
 use Rattle.theory.specs.Literals.{is_in, is_out, opposite}
-use Rattle.theory.specs.Numbering.{count, offset, total, number}
+use Rattle.theory.specs.Numbering.{count, total, number}
 
 pub opposite_in : (v : ℕ) → opposite (is_in v) ≡ is_out v
 opposite_in v = omega arith

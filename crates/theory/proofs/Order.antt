@@ -1,12 +1,12 @@
 -- The order of decisions is not seen: rounds from lists with the same members have the same members.
-use Rattle.std.proofs.Common.{◌≡◌, ℕ, zero, suc, ◌*◌, Bool, true, false, cond, not, ◌||◌, eqb, List, [], ◌∷◌, ◌++◌, filter, sym, refl, ap, ◌∙◌}
+use Rattle.std.proofs.Common.{◌≡◌, ℕ, zero, suc, ◌*◌, Bool, true, cond, not, ◌||◌, eqb, List, [], ◌∷◌, ◌++◌, filter, ap, ◌∙◌}
 use Rattle.std.specs.List.{range_with_len, flat_map}
 use Rattle.theory.specs.declared.Mark.TheVariants.{In, Out, Open}
-use Rattle.theory.specs.Lists.{◌∈◌, has}
+use Rattle.theory.specs.Lists.{has}
 use Rattle.theory.specs.Literals.{is_in, is_out, opposite}
 use Rattle.theory.specs.Reached.{forced_of, units, unless_none, rounds, reached_set}
 use Rattle.theory.specs.Marks.{opposed}
-use Rattle.theory.specs.Laws.{SameDecisions, OrderIsUnseen}
+use Rattle.theory.specs.Laws.{OrderIsUnseen}
 use Rattle.theory.proofs.Members.{in_from_has, has_from_in, same_bool}
 use Rattle.theory.proofs.Reaching.{clash_from, clash_to}
 

@@ -1,12 +1,12 @@
 -- What decisions reach, as derivations: the computed rounds hold a literal exactly when it has one.
-use Rattle.std.proofs.Common.{◌≡◌, ℕ, zero, suc, ◌+◌, ◌*◌, ◌<◌, ◌≤◌, Bool, true, false, cond, not, ◌&&◌, eqb, ◌⊎◌, List, [], ◌∷◌, ◌++◌, length, filter, sym, refl, ap, ◌∙◌, subst, inl, inr, ⊎_elim, arith}
+use Rattle.std.proofs.Common.{◌≡◌, ℕ, zero, suc, ◌*◌, ◌<◌, ◌≤◌, Bool, true, false, cond, not, eqb, ◌⊎◌, List, [], ◌∷◌, ◌++◌, length, filter, sym, refl, ◌∙◌, subst, inl, inr, ⊎_elim, arith}
 use mathlib.Core.Bool.{false≢true}
 use Rattle.std.specs.List.{range_with_len, flat_map}
 use Rattle.std.proofs.lemmas.List.FromFn.{length-range_with_len}
 use Rattle.std.proofs.lemmas.Bool.{eqb-true, eq-eqb, or_cases, or_left, or_right, cases_eq, cases_Bool, and_parts, and_from, not_from_false, not-true, both_ways}
 use Rattle.theory.specs.Lists.{◌∈◌, has}
 use Rattle.theory.specs.Literals.{opposite, Within}
-use Rattle.theory.specs.Reached.{Smallest, same, remaining, forced_of, units, unless_none, rounds, reached_set}
+use Rattle.theory.specs.Reached.{same, remaining, forced_of, units, unless_none, rounds, reached_set}
 use Rattle.theory.specs.Marks.{opposed}
 use Rattle.theory.specs.Laws.{RoundsSuffice, ClashIsOpposites}
 use Rattle.theory.proofs.Members.{in_from_has, has_from_in, in_left, in_right, in_append, kept_in, in_kept, kept_both, in_counting, in_joined, joined_in}

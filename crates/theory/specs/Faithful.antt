@@ -1,5 +1,5 @@
 -- Clause lists whose models are a network's solutions, one to one.
-use Rattle.std.specs.Prelude.{◌≡◌, ℕ, ◌+◌, Bool, true, false, cond, List, [], ◌∷◌, ◌++◌, map, length, take, drop, nat_eq}
+use Rattle.std.specs.Prelude.{◌≡◌, ℕ, ◌+◌, Bool, cond, List, [], ◌∷◌, ◌++◌, map, take, drop, nat_eq}
 use Rattle.std.specs.List.{range_with_len}
 use Rattle.theory.specs.Numbering.{total}
 use Rattle.theory.specs.Literals.{Model}

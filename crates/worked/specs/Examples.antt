@@ -1,12 +1,11 @@
 -- The worked examples, as one statement on the definitions that the contracts cite.
-use Rattle.std.specs.Prelude.{◌≡◌, ℕ, true, List, [], ◌∷◌, ◌++◌, length, replicate, Ok, Err, codes, Result}
+use Rattle.std.specs.Prelude.{◌≡◌, ℕ, true, List, [], ◌∷◌, ◌++◌, length, Ok, Err, codes, Result}
 use Rattle.theory.specs.declared.Encoding.{Encoding}
 use Rattle.theory.specs.declared.Encoding.TheVariants.{Direct, Support, MinimalSupport}
 use Rattle.theory.specs.declared.Side.TheVariants.{Lower, Higher}
 use Rattle.theory.specs.Encodings.{clauses, half, scores}
-use Rattle.theory.specs.Network.{Table, Network}
+use Rattle.theory.specs.Network.{Table}
 use Rattle.network.specs.Contents.{Contents, unlabelled}
-use Rattle.network.specs.Points.{Entry}
 use Rattle.network.specs.Tables.{no_pairs, with_allowed}
 use Rattle.netfile.specs.Reading.{read_file}
 use Rattle.books.specs.declared.refusal.WordsRefusal.{WordsRefusal}

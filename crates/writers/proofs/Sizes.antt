@@ -1,5 +1,5 @@
 -- How many words the clauses of a network need at the most.
-use Rattle.std.proofs.Common.{◌≡◌, ℕ, zero, suc, ◌+◌, ◌-◌, ◌*◌, ◌^◌, ◌<◌, ◌≤◌, Bool, not, List, [], ◌∷◌, ◌++◌, map, length, get_or, vec_items, filter, sym, refl, ap, ◌∙◌, subst, inl, inr, ⊎_elim, arith}
+use Rattle.std.proofs.Common.{ℕ, ◌+◌, ◌-◌, ◌*◌, ◌^◌, ◌<◌, ◌≤◌, Bool, not, List, [], ◌∷◌, ◌++◌, map, length, filter, sym, refl, subst, inl, inr, ⊎_elim, arith}
 use Rattle.std.specs.List.{range_with_len, flat_map}
 use Rattle.std.proofs.lemmas.List.FromFn.{length-range_with_len, length-map-range_with_len}
 use Rattle.std.proofs.lemmas.List.{length-append, length-map}
@@ -7,9 +7,9 @@ use Rattle.theory.specs.declared.Encoding.{Encoding}
 use Rattle.theory.specs.declared.Encoding.TheVariants.{Direct, Support, MinimalSupport}
 use Rattle.theory.specs.declared.Side.{Side}
 use Rattle.theory.specs.declared.Side.TheVariants.{Lower, Higher}
-use Rattle.theory.specs.Encodings.{some_clause, not_both, at_least_one, not_with_later, not_two, at_most_one, barred_with, direct_clauses, support_clause, half, better_side, table_clauses, clauses}
+use Rattle.theory.specs.Encodings.{some_clause, not_both, at_least_one, not_with_later, not_two, at_most_one, barred_with, support_clause, half, better_side, table_clauses, clauses}
 use Rattle.theory.specs.Lists.{◌∈◌}
-use Rattle.theory.specs.Literals.{is_in, is_out}
+use Rattle.theory.specs.Literals.{is_in}
 use Rattle.theory.specs.Network.{Table, Network, near, far, partner, allows}
 use Rattle.theory.specs.Numbering.{count, number, points, values}
 use Rattle.theory.proofs.Members.{in_append, in_map, in_joined, kept_both, joined_few}

@@ -1,4 +1,4 @@
-use Rattle.std.proofs.Common.{get_or, sym, ap, arith}
+use Rattle.std.proofs.Common.{get_or, ap, arith}
 use Rattle.books.proofs.Words.{many}
 use Rattle.books.proofs.halves.better.Goals as goal
 

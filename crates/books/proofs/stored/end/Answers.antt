@@ -1,4 +1,4 @@
-use Rattle.std.proofs.Common.{◌≡◌, ap, ◌∙◌, arith}
+use Rattle.std.proofs.Common.{ap, ◌∙◌, arith}
 use Rattle.books.specs.Stored.{start_of}
 use Rattle.books.proofs.Words.{end_within}
 use Rattle.books.proofs.stored.end.Goals as goal

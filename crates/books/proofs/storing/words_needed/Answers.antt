@@ -1,4 +1,4 @@
-use Rattle.std.proofs.Common.{◌≡◌, ◌+◌, ◌<◌, ◌≤◌, [], length, get_or, take, sym, ap, ◌∙◌, arith, rules}
+use Rattle.std.proofs.Common.{◌+◌, [], length, get_or, take, ap, arith}
 use Rattle.std.proofs.lemmas.List.{take_all, length-append}
 use Rattle.books.specs.Stored.{row}
 use Rattle.books.proofs.Filling.{row_more, row_front}

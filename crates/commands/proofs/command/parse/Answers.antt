@@ -1,4 +1,4 @@
-use Rattle.std.proofs.Common.{◌≡◌, true, false, cond, drop, codes, sym, ap, ◌∙◌}
+use Rattle.std.proofs.Common.{cond, drop, codes, sym, ap, ◌∙◌}
 use Rattle.std.proofs.lemmas.List.{take_rest}
 use Rattle.std.proofs.lemmas.Bool.{cond-true, cond-false}
 use Rattle.commands.specs.declared.command.Command.TheVariants.{Unknown}

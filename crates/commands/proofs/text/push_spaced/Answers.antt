@@ -1,4 +1,4 @@
-use Rattle.std.proofs.Common.{◌≡◌, ◌++◌, get_or, string_bytes, codes, decimal, sym, refl, ap, ◌∙◌}
+use Rattle.std.proofs.Common.{◌++◌, get_or, string_bytes, codes, decimal, ap, ◌∙◌}
 use Rattle.std.proofs.lemmas.List.{append_assoc, take_all, get_or_default}
 use Rattle.commands.specs.Texts.{spaced}
 use Rattle.commands.proofs.Joining.{piece_more}

@@ -1,9 +1,9 @@
-use Rattle.std.proofs.Common.{◌≡◌, get_or, drop, Ok, Err, sym, refl, ap, ◌∙◌, subst}
+use Rattle.std.proofs.Common.{◌≡◌, get_or, drop, Ok, Err, sym, ap, ◌∙◌, subst}
 use Rattle.std.proofs.lemmas.Bool.{cond-true, cond-false}
 use Rattle.network.specs.declared.refusal.Refusal.TheVariants.{BadPoint}
 use Rattle.network.specs.Bounds.{PointWithin}
 use Rattle.network.specs.Points.{Entry, entry_of}
-use Rattle.netfile.specs.Records.{Item, point, point_fits, record_fault}
+use Rattle.netfile.specs.Records.{point, point_fits, record_fault}
 use Rattle.netfile.proofs.Items.{decides_point}
 use Rattle.netfile.proofs.Layers.{fails}
 use Rattle.netfile.proofs.checks.point.Goals as goal

@@ -1,4 +1,4 @@
-use Rattle.std.proofs.Common.{◌≡◌, ◌<◌, length, vec_items, refl, arith}
+use Rattle.std.proofs.Common.{vec_items, refl, arith}
 use Rattle.netfile.proofs.Tabling.{tables_allow, allow_none}
 use Rattle.netfile.proofs.draft.allow_last.Goals as goal
 

@@ -1,4 +1,4 @@
-use Rattle.std.proofs.Common.{vec_items, sym, ap, subst}
+use Rattle.std.proofs.Common.{vec_items, sym, subst}
 use Rattle.network.specs.Points.{values_of}
 use Rattle.network.specs.Tables.{tables_of, TablesWithin}
 use Rattle.netfile.proofs.loading.finish.Goals as goal

@@ -1,4 +1,4 @@
-use Rattle.std.proofs.Common.{◌≡◌, ◌-◌, take, ap, ◌∙◌}
+use Rattle.std.proofs.Common.{take, ap, ◌∙◌}
 use native.Mathlib.Nat.{sub-zero}
 use Rattle.network.proofs.Places.{total_of, total_front_of}
 use Rattle.network.proofs.numbering.offset.Goals as goal

@@ -1,4 +1,4 @@
-use Rattle.std.proofs.Common.{◌≡◌, ◌+◌, ◌-◌, ◌<◌, ◌≤◌, drop, sym, ap, ◌∙◌, arith, rules}
+use Rattle.std.proofs.Common.{◌+◌, ◌-◌, drop, sym, ap, ◌∙◌, arith}
 use Rattle.theory.specs.Numbering.{place}
 use Rattle.network.specs.Points.{entries, values_of}
 use Rattle.network.proofs.Places.{later_by, later_by_none, place_here, place_on, place_past}

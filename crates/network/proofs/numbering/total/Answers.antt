@@ -1,4 +1,4 @@
-use Rattle.std.proofs.Common.{add-zero, arith, rules}
+use Rattle.std.proofs.Common.{arith, rules}
 use Rattle.std.proofs.lemmas.List.{at_drop_all}
 use Rattle.network.proofs.Places.{total_of, total_more}
 use Rattle.network.proofs.numbering.total.Goals as goal

@@ -1,7 +1,6 @@
-use Rattle.std.proofs.Common.{◌≡◌, ◌+◌, ◌≤◌, List, [], ◌∷◌, ◌++◌, map, length, get_or, take, vec_items, vec_len, sym, refl, ap, ◌∙◌, subst, arith}
+use Rattle.std.proofs.Common.{◌≡◌, ◌≤◌, [], ◌∷◌, ◌++◌, map, length, take, vec_items, sym, ap, ◌∙◌, subst, arith}
 use Rattle.std.proofs.lemmas.List.{length-map, length-take-le, map_push, take_more, take_all}
 use Rattle.network.specs.Points.{points_of}
-use Rattle.calls.specs.declared.call.Exchange.{Exchange}
 use Rattle.calls.specs.Runs.{call_of, state_after, Right, Exact}
 use Rattle.calls.proofs.Running.{exact_none, exact_push}
 use Rattle.session.specs.Sessions.{state_of}

@@ -1,6 +1,6 @@
-use Rattle.std.proofs.Common.{◌≡◌, ◌<◌, [], ◌++◌, length, get_or, take, string_bytes, codes, decimal, sym, ap, ◌∙◌, arith}
+use Rattle.std.proofs.Common.{◌<◌, [], ◌++◌, length, get_or, string_bytes, codes, decimal, ap, ◌∙◌, arith}
 use Rattle.std.specs.List.{flat_map}
-use Rattle.std.proofs.lemmas.List.{append_assoc, append-nil, take_all, get_or_default}
+use Rattle.std.proofs.lemmas.List.{append_assoc, take_all, get_or_default}
 use Rattle.session_commands.specs.Texts.{clause_text}
 use Rattle.session_commands.proofs.Joining.{piece_more}
 use Rattle.session_commands.proofs.text.clauses.Goals as goal

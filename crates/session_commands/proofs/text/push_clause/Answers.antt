@@ -1,4 +1,4 @@
-use Rattle.std.proofs.Common.{◌≡◌, [], ◌++◌, length, get_or, drop, string_bytes, decimal, sym, ap, ◌∙◌, arith}
+use Rattle.std.proofs.Common.{[], ◌++◌, get_or, string_bytes, decimal, ap, ◌∙◌, arith}
 use Rattle.session_commands.proofs.Joining.{line_of, line_of_none}
 use Rattle.session_commands.proofs.text.push_clause.Goals as goal
 

@@ -1,8 +1,7 @@
-use Rattle.std.proofs.Common.{◌≡◌, ℕ, ◌<◌, List, length, Ok, Err, Result, refl, ap, ◌∙◌, arith}
+use Rattle.std.proofs.Common.{◌≡◌, ℕ, ◌<◌, List, Ok, Err, refl, ap, ◌∙◌, arith}
 use Rattle.theory.specs.declared.Encoding.TheVariants.{Support}
 use Rattle.theory.specs.Encodings.{clauses}
 use Rattle.network.specs.Contents.{unlabelled}
-use Rattle.books.specs.declared.refusal.WordsRefusal.{WordsRefusal}
 use Rattle.books.specs.declared.refusal.WordsRefusal.TheVariants.{TooFewWords, NotStored}
 use Rattle.books.specs.Stored.{words_needed}
 use Rattle.worked.specs.Examples.{berm, Refuses}

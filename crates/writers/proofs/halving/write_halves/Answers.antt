@@ -1,4 +1,4 @@
-use Rattle.std.proofs.Common.{◌≡◌, ℕ, ◌<◌, List, [], length, Ok, Err, vec_items, Result, sym, refl, ap, ◌∙◌, subst₂, arith, subst}
+use Rattle.std.proofs.Common.{◌≡◌, ℕ, ◌<◌, List, [], length, Ok, Err, vec_items, Result, sym, refl, ◌∙◌, subst₂, arith, subst}
 use Rattle.theory.specs.declared.Side.{Side}
 use Rattle.theory.specs.declared.Side.TheVariants.{Lower, Higher}
 use Rattle.theory.specs.Encodings.{half}

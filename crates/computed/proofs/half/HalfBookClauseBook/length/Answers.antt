@@ -1,4 +1,4 @@
-use Rattle.std.proofs.Common.{◌≡◌, ◌<◌, ◌≤◌, length, sym, ap, ◌∙◌, arith}
+use Rattle.std.proofs.Common.{◌≡◌, length, sym, ap, ◌∙◌, arith}
 use Rattle.theory.specs.Network.{near}
 use Rattle.theory.specs.Numbering.{count as countAt}
 use Rattle.network.specs.Points.{counts_of}

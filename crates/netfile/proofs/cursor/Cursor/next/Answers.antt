@@ -1,4 +1,4 @@
-use Rattle.std.proofs.Common.{◌≡◌, drop, sym, refl, ap, ◌∙◌, arith}
+use Rattle.std.proofs.Common.{refl, ap, ◌∙◌, arith}
 use Rattle.netfile.specs.Bytes.{body_length}
 use Rattle.netfile.specs.Records.{item_of, checked_raw}
 use Rattle.netfile.proofs.Layers.{checked_kind}

@@ -1,4 +1,4 @@
-use Rattle.std.proofs.Common.{◌≡◌, ◌-◌, min, length, take, vec_items, ap, ◌∙◌, arith}
+use Rattle.std.proofs.Common.{◌≡◌, min, length, take, vec_items, ap, ◌∙◌}
 use native.Mathlib.Nat.{sub-zero}
 use Rattle.network.proofs.Places.{total_of, total_front_of}
 use Rattle.network.proofs.points.PointList.offset.Goals as goal

@@ -1,7 +1,6 @@
-use Rattle.std.proofs.Common.{◌≡◌, ℕ, ◌+◌, Bool, true, false, not, length, Ok, filter, sym, refl, ap, ◌∙◌, ⊎_elim, arith}
+use Rattle.std.proofs.Common.{◌≡◌, ℕ, Bool, true, false, not, length, Ok, filter, sym, ap, ◌∙◌, ⊎_elim, arith}
 use Rattle.std.specs.List.{range_with_len}
-use Rattle.theory.specs.declared.Mark.{Mark}
-use Rattle.theory.specs.declared.Mark.TheVariants.{In, Out, Open}
+use Rattle.theory.specs.declared.Mark.TheVariants.{In, Open}
 use Rattle.partners.proofs.Counts.{kept_more}
 use Rattle.calls.specs.States.{mark_at}
 use Rattle.calls.specs.Replies.{marks_out}

@@ -1,4 +1,4 @@
-use Rattle.std.proofs.Common.{◌≡◌, Ok, sym, ap, ◌∙◌, arith}
+use Rattle.std.proofs.Common.{Ok, sym, ap, ◌∙◌, arith}
 use Rattle.theory.specs.Numbering.{offset, count}
 use Rattle.network.specs.Points.{entries, values_of}
 use Rattle.session.proofs.Finding.{clash_same, many_points, no_point, point_clash, point_calm}
