@@ -1,9 +1,11 @@
 #!/bin/sh
-# Builds the map program: the proved library as an archive, and map.c with it. build.sh PROGRAM [FLAGS of the C compiler]
+# Builds the map program: the proved library as the archive libmapping.a beside it, and map.c with it. build.sh PROGRAM [FLAGS of the C compiler]
 set -eu
 cd "$(dirname "$0")/.."
-kit=$(dirname "$(dirname "$(rt doc)")")
-rt staticlib mapping >/dev/null
+kit=$(dirname "$(rt doc)")
 program=$1
+archive=$(dirname "$program")/libmapping.a
 shift
-cc -std=c99 -Wall -Wextra -Werror -O2 "$@" -o "$program" c/map.c target/staticlib/libmapping.a "$kit/lib/librattle_c.a"
+(cd crates/mapping_c && rt lib >/dev/null)
+cp crates/mapping_c/out/libmapping_c.a "$archive"
+cc -std=c99 -Wall -Wextra -Werror -O2 "$@" -o "$program" c/map.c "$archive" "$kit/c/liblibc_c.a"

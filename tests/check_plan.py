@@ -1,6 +1,6 @@
 """Runs the program plan on many files and compares what it prints with the second reader and encoder.
 
-usage: check_plan.py PROGRAM [SEED]
+usage: check_plan.py PROGRAM [SEED [halves]]     with `halves` the program answers `half T` too
 Its last line is 'N passed, M failed'.
 """
 
@@ -19,8 +19,8 @@ E_FILE = open(os.path.join(EXAMPLES, "berm.net"), "rb").read()
 
 
 class Checks:
-    def __init__(self, program):
-        self.program, self.passed, self.failed = program, 0, 0
+    def __init__(self, program, halves):
+        self.program, self.halves, self.passed, self.failed = program, halves, 0, 0
         self.met = {}
         self.folder = tempfile.TemporaryDirectory()
         self.path = os.path.join(self.folder.name, "case.net")
@@ -41,19 +41,19 @@ class Checks:
 
     def file(self, name, data, lines=()):
         """What plan prints for a file and lines of input, compared with the second reader."""
-        self.expect(name, self.run(data, lines), (0, wanted(data, lines, self.met)), data)
+        self.expect(name, self.run(data, lines), (0, wanted(data, lines, self.met, self.halves)), data)
 
 
-def wanted(data, lines, met):
+def wanted(data, lines, met, half_too):
     try:
         points, tables = read(data)
     except Refused as r:
         met[r.number] = met.get(r.number, 0) + 1
         return f"refused {r.number} at {r.place}\n".encode()
-    return b"".join(answer(points, tables, line) for line in lines)
+    return b"".join(answer(points, tables, line, half_too) for line in lines)
 
 
-def answer(points, tables, line):
+def answer(points, tables, line, half_too):
     words = line.split(b" ")
     if len(words) == 2 and words[0] == b"number" and words[1] and all(48 <= b <= 57 for b in words[1]):
         places, n = numbers(points), int(words[1])
@@ -61,7 +61,7 @@ def answer(points, tables, line):
     if len(words) == 2 and words[0] == b"clauses" and words[1] in (b"direct", b"support", b"minimal"):
         found = clauses(points, tables, words[1].decode())
         return b"%d\n" % len(found) + b"".join(b" ".join(b"%d" % l for l in c) + b"\n" for c in found)
-    if len(words) == 2 and words[0] == b"half" and words[1] and all(48 <= b <= 57 for b in words[1]):
+    if half_too and len(words) == 2 and words[0] == b"half" and words[1] and all(48 <= b <= 57 for b in words[1]):
         if int(words[1]) >= len(tables):
             return b"refused 12\n"
         lower, higher = (score(half) for half in halves(points, tables[int(words[1])]))
@@ -75,7 +75,8 @@ def listed_cases(checks):
     direct = b"10\n0 2 4\n6 8\n1 3\n1 5\n3 5\n7 9\n1 9\n3 7\n5 7\n5 9\n"
     minimal = b"9\n0 2 4\n6 8\n1 3\n1 5\n3 5\n7 9\n1 6\n3 8\n5\n"
     asked = [(b"clauses support", support), (b"clauses direct", direct), (b"clauses minimal", minimal)]
-    asked += [(b"half 0", b"lower 24 8\n"), (b"half 1", b"refused 12\n")]
+    if checks.halves:
+        asked += [(b"half 0", b"lower 24 8\n"), (b"half 1", b"refused 12\n")]
     for line, text in asked:
         checks.expect(line.decode(), checks.run(E_FILE, [line]), (0, text))
     e = E_FILE
@@ -173,14 +174,15 @@ def random_cases(checks, seed, count):
         points, tables = random_network(rng)
         data = network_file(points, tables)
         lines = [b"number %d" % rng.randrange(200), b"clauses " + rng.choice([b"direct", b"support", b"minimal"])]
-        lines += [b"half %d" % t for t in range(len(tables) + 1)]
+        if checks.halves:
+            lines += [b"half %d" % t for t in range(len(tables) + 1)]
         checks.file(f"random {k}", data, lines)
         checks.file(f"damaged {k}", damaged(rng, data), lines)
 
 
 def main():
     seed = int(sys.argv[2]) if len(sys.argv) > 2 else 1
-    checks = Checks(sys.argv[1])
+    checks = Checks(sys.argv[1], len(sys.argv) > 3 and sys.argv[3] == "halves")
     listed_cases(checks)
     limit_cases(checks)
     example_cases(checks)

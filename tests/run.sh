@@ -53,11 +53,19 @@ seed=${SEED:-1}
 { rt ci 2>&1; echo $? >"$log.status"; } | tee "$log"
 status=$(cat "$log.status")
 count "$log" "$status"
+# an edit that cannot be applied or read shows nothing
+if grep -qE '^rt: ok.*, [1-9][0-9]* bad' "$log"; then
+    failed=$((failed + 1))
+fi
 
 if [ "$status" -eq 0 ]; then
-    suite python3 tests/check_plan.py target/bin/plan "$seed"
+    for program in plan session_plan marks; do
+        step sh tools/program.sh "$program"
+    done
+    suite python3 tests/check_plan.py crates/plan/out/plan "$seed"
+    suite python3 tests/check_plan.py crates/session_plan/out/session_plan "$seed" halves
     step sh c/build.sh "$tools/map"
-    suite python3 tests/check_session.py target/bin/plan target/bin/marks "$tools/map" "$seed"
+    suite python3 tests/check_session.py crates/session_plan/out/session_plan crates/marks/out/marks "$tools/map" "$seed"
     suite python3 tests/check_memory.py "$tools/map" "$seed"
     step sh examples/run.sh
 fi
