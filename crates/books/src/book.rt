@@ -10,15 +10,15 @@ pub trait ClauseBook {
 
     // How many clauses there are.
     fn count(&self) -> usize
-        ensures { result ≡ length (Self.clauses self.now) };
+        ensures { result ≡ length (clauses self.now) };
 
     // The length of clause i: 0 where there is no clause i.
     fn length(&self, i: usize) -> usize
-        ensures { result ≡ length (slice_index_or (Self.clauses self.now) i []) };
+        ensures { result ≡ length (slice_index_or (clauses self.now) i []) };
 
     // Literal j of clause i: 0 where there is none.
     fn literal(&self, i: usize, j: usize) -> u32
-        ensures { result ≡ slice_index (slice_index_or (Self.clauses self.now) i []) j };
+        ensures { result ≡ slice_index (slice_index_or (clauses self.now) i []) j };
 }
 
 // A clause book of a network, whose models are exactly the network's solutions.
@@ -28,6 +28,6 @@ pub trait FaithfulBook: ClauseBook {
 
     // How many values the point has: 0 where there is no such point.
     fn value_count(&self, point: usize) -> usize
-        ensures answer { result ≡ count_at (Self.network self.now).counts point }
-        ensures faithful { Faithful (Self.network self.now) (Self.clauses self.now) };
+        ensures answer { result ≡ count_at (network self.now).counts point }
+        ensures faithful { Faithful (network self.now) (Self.clauses self.now) };
 }

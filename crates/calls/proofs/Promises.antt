@@ -134,8 +134,8 @@ calm_full net s same w all = ⊎_elim empty some (cases_eq (total (counts_of s))
   where
     empty : total (counts_of s) ≡ 0 → is_clashed s ≡ false
     empty z =
-        let ds-none = none_below s.decisions (subst (λ n. DecisionsWithin n s.decisions) z w) in
-        λ i. clashed s.clauses (z i) (ds-none i)
+        let ds_none = none_below s.decisions (subst (λ n. DecisionsWithin n s.decisions) z w) in
+        λ i. clashed s.clauses (z i) (ds_none i)
 
     some : (total (counts_of s) ≡ 0 → ⊥) → is_clashed s ≡ false
     some ne =

@@ -6,8 +6,8 @@ use Rattle.network.specs.declared.table.Table.{Table}
 use Rattle.network.specs.Tables.{table_of, tables_of}
 
 -- behind the first element
-pub get_d_behind : {A : Type 0} (x : A) (xs : List A) (j : ℕ) (d : A) → 0 < j → get_or (x ∷ xs) j d ≡ get_or xs (j - 1) d
-get_d_behind x xs j d h = get_or-append_right (x ∷ []) xs 1 j d refl (omega arith)
+pub get_or_behind : {A : Type 0} (x : A) (xs : List A) (j : ℕ) (d : A) → 0 < j → get_or (x ∷ xs) j d ≡ get_or xs (j - 1) d
+get_or_behind x xs j d h = get_or-append_right (x ∷ []) xs 1 j d refl (omega arith)
 
 module _ (us vs : List Table) (same : us ≡ vs) where
   pub tables_length : length (tables_of vs) ≡ length us

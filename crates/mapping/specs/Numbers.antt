@@ -1,6 +1,6 @@
 -- The numbers of what can go wrong with a map.
 use Rattle.std.specs.Prelude.{ℕ}
-use Rattle.network.specs.Refusals.{number_of as refusalNumber}
+use Rattle.network.specs.Refusals.{number_of as refusal_number}
 use Rattle.netfile.specs.declared.loading.ReadError.{ReadError}
 use Rattle.netfile.specs.declared.loading.ReadError.TheVariants.{Refused as ReadRefused, OutOfMemory as ReadOutOfMemory}
 use Rattle.mapping.specs.declared.error.MapError.{MapError}
@@ -8,7 +8,7 @@ use Rattle.mapping.specs.declared.error.MapError.TheVariants.{Refused, TooShort,
 
 -- the number that is printed: the refusal's, and 99 where there is no memory
 abbrev pub number_of : MapError → ℕ
-number_of (Refused f) = refusalNumber f.refusal
+number_of (Refused f) = refusal_number f.refusal
 number_of TooShort = 21
 number_of OutOfMemory = 99
 

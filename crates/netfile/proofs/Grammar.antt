@@ -82,8 +82,8 @@ module _ (p n : ℕ) (es : List Entry) where
       Onward p n es (ts ++ t ∷ []) (pair i j)
   pair_onward ts t i j m f =
       let few = few_values es m.each_point in
-      let after-it = after_pair p n es ts t i j (omega (arith, f.0, few t.low)) (omega (arith, f.1, few t.high)) in
-      inl (es, ts ++ with_one t (i, j) ∷ [], kept, after-it, items)
+      let after_it = after_pair p n es ts t i j (omega (arith, f.0, few t.low)) (omega (arith, f.1, few t.high)) in
+      inl (es, ts ++ with_one t (i, j) ∷ [], kept, after_it, items)
     where
       w : ListedWithin (values_of es) t
       w = m.each_table t (in_right ts (t ∷ []) t (inl refl))

@@ -1,5 +1,5 @@
 ghost use Rattle.std.specs.Prelude.{◌≡◌, ◌+◌, ◌≤◌, false, length};
-ghost use Rattle.theory.specs.Numbering.{count as countAt};
+ghost use Rattle.theory.specs.Numbering.{count as count_at};
 ghost use Rattle.calls.specs.States.{counts_of, is_clashed};
 ghost use Rattle.session.specs.Sessions.{state_of};
 ghost use Rattle.page.specs.Pages.{sign_text, signs_text};
@@ -27,7 +27,7 @@ pub(crate) fn write_signs(
     out: &mut [u8],
     at: usize,
 ) -> usize
-    requires all { count ≡ countAt (counts_of (state_of session.now)) point }
+    requires all { count ≡ count_at (counts_of (state_of session.now)) point }
     requires calm { is_clashed (state_of session.now) ≡ false }
     requires room { at + count ≤ length out.old }
     ensures { Placed (signs_text (state_of session.now) point) at out.old out.new result }

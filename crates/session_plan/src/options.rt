@@ -17,7 +17,7 @@ fn encoding_of(name: Option<String>) -> anyhow::Result<Encoding> {
     match name.as_str() {
         "support" => Ok(Encoding::Support),
         "direct" => Ok(Encoding::Direct),
-        _ => Err(anyhow!("usage: plan FILE [support|direct]")),
+        _ => Err(anyhow!("usage: session_plan FILE [support|direct]")),
     }
 }
 
@@ -31,7 +31,7 @@ impl Options {
                 file,
                 encoding: encoding_of(kind)?,
             }),
-            _ => Err(anyhow!("usage: plan FILE [support|direct]")),
+            _ => Err(anyhow!("usage: session_plan FILE [support|direct]")),
         }
     }
 }

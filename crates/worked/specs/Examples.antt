@@ -10,12 +10,12 @@ use Rattle.network.specs.Tables.{no_pairs, with_allowed}
 use Rattle.netfile.specs.Reading.{read_file}
 use Rattle.books.specs.declared.refusal.WordsRefusal.{WordsRefusal}
 use Rattle.books.specs.declared.refusal.WordsRefusal.TheVariants.{TooFewWords}
-use Rattle.books.specs.Refusals.{number_of as wordsNumber}
+use Rattle.books.specs.Refusals.{number_of as words_number}
 use Rattle.books.specs.Stored.{words_needed}
 use Rattle.books.specs.Storing.{Stores}
 use Rattle.calls.specs.declared.call.Decided.TheVariants.{Taken, Clash}
 use Rattle.calls.specs.declared.refusal.CallRefusal.TheVariants.{MarkedOut}
-use Rattle.calls.specs.Refusals.{number_of as callNumber}
+use Rattle.calls.specs.Refusals.{number_of as call_number}
 use Rattle.calls.specs.States.{State, is_clashed, under}
 use Rattle.calls.specs.Replies.{choose_reply, bar_reply, withdraw_reply}
 use Rattle.calls.specs.Runs.{after_decided, after_withdrawn}
@@ -61,7 +61,7 @@ pub record Worked (file : List ℕ) : Type 0 where
   -- its support clauses, and the words they need
   pub support : clauses Support (unlabelled berm) ≡ first_six ++ (1 ∷ 6 ∷ []) ∷ (3 ∷ 8 ∷ []) ∷ (5 ∷ []) ∷ (7 ∷ 0 ∷ []) ∷ (9 ∷ 2 ∷ []) ∷ []
   pub support_words : words_needed (clauses Support (unlabelled berm)) ≡ 34
-  pub support_short : Refuses (clauses Support (unlabelled berm)) 33 34 × (wordsNumber (TooFewWords 34) ≡ 18)
+  pub support_short : Refuses (clauses Support (unlabelled berm)) 33 34 × (words_number (TooFewWords 34) ≡ 18)
   -- its direct clauses, and the words they need
   pub direct : clauses Direct (unlabelled berm) ≡ first_six ++ (1 ∷ 9 ∷ []) ∷ (3 ∷ 7 ∷ []) ∷ (5 ∷ 7 ∷ []) ∷ (5 ∷ 9 ∷ []) ∷ []
   pub direct_words : words_needed (clauses Direct (unlabelled berm)) ≡ 32
@@ -74,7 +74,7 @@ pub record Worked (file : List ℕ) : Type 0 where
   -- over support clauses, the tip's value 0 is chosen; its value 2 is then refused
   pub chosen : choose_reply (opened Support berm) 0 0 ≡ Ok Taken
   pub chosen_page : page_text (under (opened Support berm) (after_decided [] 0 (Ok Taken))) ≡ codes "TIP      +--\nCABLE    +-\n"
-  pub refused : (choose_reply (under (opened Support berm) (after_decided [] 0 (Ok Taken))) 0 2 ≡ Err MarkedOut) × (callNumber MarkedOut ≡ 13)
+  pub refused : (choose_reply (under (opened Support berm) (after_decided [] 0 (Ok Taken))) 0 2 ≡ Err MarkedOut) × (call_number MarkedOut ≡ 13)
   -- over support clauses, the cable's value 0 is barred
   pub barred : bar_reply (opened Support berm) 1 0 ≡ Ok Taken
   pub barred_page : page_text (under (opened Support berm) (after_decided [] 7 (Ok Taken))) ≡ codes "TIP      -+-\nCABLE    -+\n"

@@ -1,5 +1,5 @@
 ghost use Rattle.std.specs.Prelude.{◌≡◌, ℕ, ◌+◌, ◌*◌, ◌<◌, ◌≤◌, [], ◌∷◌, map, length, replicate, IfOk, Some, None, vec_len, MatchOption};
-ghost use Rattle.theory.specs.Numbering.{count, offset, total, number as numberOfValue, place};
+ghost use Rattle.theory.specs.Numbering.{count, offset, total, number as number_of_value, place};
 ghost use Rattle.network.specs.Bounds.{PointsWithin, most_points, most_values};
 ghost use Rattle.network.specs.Points.{points_of, counts_of, entries, label_at, number_at, Undone};
 
@@ -90,7 +90,7 @@ impl PointList {
     pub fn place(&self, number: usize) -> Option<(usize, usize)>
         ensures value { result ≡ place (counts_of self.now) number }
         ensures inverse { Undone (counts_of self.now) number result }
-        ensures covers { (p i : ℕ) → i < count (counts_of self.now) p → place (counts_of self.now) (numberOfValue (counts_of self.now) p i) ≡ Some (p, i) }
+        ensures covers { (p i : ℕ) → i < count (counts_of self.now) p → place (counts_of self.now) (number_of_value (counts_of self.now) p i) ≡ Some (p, i) }
     {
         numbering::place(&self.points, number)
     }

@@ -7,7 +7,7 @@ use Rattle.theory.specs.Numbering.{number, offset}
 use Rattle.network.specs.Points.{counts_of}
 use Rattle.network.specs.Tables.{table_of}
 use Rattle.computed.specs.Rows.{row}
-use Rattle.computed.proofs.AtTable.{get_d_behind}
+use Rattle.computed.proofs.AtTable.{get_or_behind}
 use Rattle.computed.proofs.support.literal_in.Goals as goal
 
 pub returns-in-Some : goal.returns-in-Some
@@ -20,7 +20,7 @@ returns-in-Some c =
     let f : ℕ → ℕ = λ j. is_in (number ks (far s t) j) in
     let other = ap (offset ks) c.far_point.ensures in
     let is : c.is_in.result ≡ f c.in-Some.partner = omega arith in
-    is ∙ ap f (sym found.1) ∙ sym (get_or-map f ps (c.args.j - 1) 0 0 found.0) ∙ sym (get_d_behind _ (map f ps) c.args.j 0 (omega arith))
+    is ∙ ap f (sym found.1) ∙ sym (get_or-map f ps (c.args.j - 1) 0 0 found.0) ∙ sym (get_or_behind _ (map f ps) c.args.j 0 (omega arith))
 
 pub returns-in-None : goal.returns-in-None
 returns-in-None c =
