@@ -1,8 +1,11 @@
-ghost use Rattle.std.specs.Prelude.{◌≡◌, List, ◌++◌, map, IfOk, OnOk};
+ghost use Rattle.std.specs.Prelude.{◌≡◌, List, ◌++◌, map, IfOk, IfErr, OnOk};
+ghost use Rattle.theory.specs.Numbering.{total};
+ghost use Rattle.clause_store.specs.Fitness.{Fit};
+ghost use Rattle.clause_store.specs.Refusals.{IfUnfit};
 ghost use Rattle.calls.specs.declared.call.Exchange.{Exchange};
 ghost use Rattle.calls.specs.Promise.{Promise};
 ghost use Rattle.calls.specs.Runs.{call_of};
-ghost use Rattle.network.specs.Points.{points_of};
+ghost use Rattle.network.specs.Points.{points_of, counts_of};
 
 use crate::Caller;
 use books::ClauseBook;
@@ -19,7 +22,9 @@ pub fn play<B: ClauseBook, C: Caller>(
     book: &B,
     caller: &mut C,
 ) -> Result<(), OpenError>
-    ensures { OnOk result ((xs : List Exchange) → C.heard caller.old xs → (ys : List Exchange) × C.finished caller.new (xs ++ ys) × Promise (points_of points.now) (B.clauses book.now) ys) }
+    ensures fit { OnOk result (Fit (total (counts_of points.now)) (B.clauses book.now)) }
+    ensures unfit { IfErr result (λ e. IfUnfit e (Fit (total (counts_of points.now)) (B.clauses book.now) → ⊥)) }
+    ensures promise { OnOk result ((xs : List Exchange) → C.heard caller.old xs → (ys : List Exchange) × C.finished caller.new (xs ++ ys) × Promise (points_of points.now) (B.clauses book.now) ys) }
 {
     let mut session = Session::new(heap);
     session.open(heap, points, book)?;
@@ -37,6 +42,8 @@ pub fn play_all<B: ClauseBook>(
     book: &B,
     calls: &[Call],
 ) -> Result<Vec<Exchange>, OpenError>
+    ensures fit { OnOk result (Fit (total (counts_of points.now)) (B.clauses book.now)) }
+    ensures unfit { IfErr result (λ e. IfUnfit e (Fit (total (counts_of points.now)) (B.clauses book.now) → ⊥)) }
     ensures calls { IfOk result (λ v. map call_of v.items ≡ calls.now) }
     ensures promise { IfOk result (λ v. Promise (points_of points.now) (B.clauses book.now) v.items) }
 {

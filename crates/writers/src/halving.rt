@@ -1,5 +1,8 @@
-ghost use Rattle.std.specs.Prelude.{◌≡◌};
+ghost use Rattle.std.specs.Prelude.{◌≡◌, OnOk};
 ghost use Rattle.network.specs.Contents.{meaning};
+ghost use Rattle.theory.specs.declared.Side.TheVariants.{Lower, Higher};
+ghost use Rattle.books.specs.Storing.{Holds};
+ghost use Rattle.computed.specs.Scores.{half_at};
 ghost use Rattle.writers.specs.Halved.{Halved, halves_answer};
 
 use books::{HalvesRefusal, WordsRefusal};
@@ -26,7 +29,8 @@ pub fn write_halves(
     low: &mut [u32],
     high: &mut [u32],
 ) -> Result<(usize, usize), HalvesRefusal>
-    ensures { Halved (meaning network.now) table low.old low.new high.old high.new result }
+    ensures answer { Halved (meaning network.now) table low.old low.new high.old high.new result }
+    ensures books { OnOk result (Holds (half_at (meaning network.now) Lower table) low.new × Holds (half_at (meaning network.now) Higher table) high.new) }
 {
     match network.tables().get(table) {
         Some(found) => {

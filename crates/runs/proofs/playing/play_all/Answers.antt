@@ -46,6 +46,8 @@ loop-call-preserved g c =
 pub returns : goal.returns
 returns g c =
     record {
+      fit = c.in_ok-open.ensures.answer.0;
+      unfit = tt;
       calls = c.loop-call.invariant.0 ∙ take_all c.loop-call.call-index c.args.calls.now c.loop-call-test.false;
       promise =
           kept c.loop-call.session (points_of c.args.points.now) (g.B.ClauseBook.clauses c.args.book.now) (vec_items c.loop-call.log)

@@ -1,4 +1,4 @@
-use Rattle.std.proofs.Common.{◌≡◌, ℕ, ◌<◌, List, [], length, Ok, Err, vec_items, Result, sym, refl, ◌∙◌, subst₂, arith, subst}
+use Rattle.std.proofs.Common.{◌≡◌, ℕ, ◌<◌, List, [], length, drop, Ok, Err, OnOk, vec_items, Result, sym, refl, ◌∙◌, subst₂, arith, subst}
 use Rattle.theory.specs.declared.Side.{Side}
 use Rattle.theory.specs.declared.Side.TheVariants.{Lower, Higher}
 use Rattle.theory.specs.Encodings.{half}
@@ -11,7 +11,9 @@ use Rattle.network.specs.Tables.{table_of}
 use Rattle.network.proofs.Properness.{few_values}
 use Rattle.books.specs.declared.refusal.WordsRefusal.{WordsRefusal}
 use Rattle.books.specs.declared.refusal.WordsRefusal.TheVariants.{TooFewWords, NotStored}
-use Rattle.books.specs.Storing.{StoresBoth}
+use Rattle.books.specs.Storing.{Holds, Stores, StoresBoth}
+use Rattle.books.proofs.Reading.{stored_is, stored_says}
+use Rattle.books.specs.declared.refusal.HalvesRefusal.{HalvesRefusal}
 use Rattle.computed.proofs.AtTable.{table_at, tables_length}
 use Rattle.computed.specs.Scores.{half_at}
 use Rattle.writers.specs.Halved.{Halved, halves_answer}
@@ -30,6 +32,17 @@ both_halved net k cs ds low low' high high' (Ok x) h a b s = (h, subst₂ (λ x�
 both_halved net k cs ds low low' high high' (Err (TooFewWords n)) h a b s =
     (h, subst₂ (λ x₁ x₂. StoresBoth x₁ x₂ low low' high high' (Err (TooFewWords n))) a b s)
 both_halved net k cs ds low low' high high' (Err NotStored) h a b s = absurd s
+
+-- what stands in words after storing is a stored book of the clauses
+holds : (cs : List (List ℕ)) (old new : List ℕ) (n : ℕ) → Stores cs old new (Ok n) → Holds cs new
+holds cs old new n s = subst (Holds cs) (sym s.2) (stored_is cs (drop n old), stored_says cs (drop n old))
+
+-- so each half is one in its buffer
+both_hold :
+    (net : Network) (k : ℕ) (low low' high high' : List ℕ) (r : Result (ℕ × ℕ) HalvesRefusal) →
+    Halved net k low low' high high' r → OnOk r (Holds (half_at net Lower k) low' × Holds (half_at net Higher k) high')
+both_hold net k low low' high high' (Ok x) h = (holds (half_at net Lower k) low low' x.0 h.1.0, holds (half_at net Higher k) high high' x.1 h.1.1)
+both_hold net k low low' high high' (Err e) h = tt
 
 pub store_both-requires : goal.store_both-requires
 store_both-requires c =
@@ -58,9 +71,17 @@ returns-in-Some c =
     (c.new-higher.ensures.points ∙ c.points-points.ensures) c.new-higher.ensures.side c.new-higher.ensures.table ∙ sym (at Higher) in
     let low = c.store_both.new.low in
     let high = c.store_both.new.high in
+    let halved : Halved (meaning net) k c.args.low.now low c.args.high.now high c.halves_answer.result =
     subst (Halved (meaning net) k c.args.low.now low c.args.high.now high) (sym c.halves_answer.ensures)
-    (both_halved (meaning net) k _ _ c.args.low.now low c.args.high.now high c.store_both.result lt low_is high_is c.store_both.ensures)
+    (both_halved (meaning net) k _ _ c.args.low.now low c.args.high.now high c.store_both.result lt low_is high_is c.store_both.ensures) in
+    record {
+      answer = halved;
+      books = both_hold (meaning net) k c.args.low.now low c.args.high.now high c.halves_answer.result halved;
+    }
 
 pub returns-in-None : goal.returns-in-None
 returns-in-None c =
-    (omega (arith, c.in-None.ensures.lookup.3, tables_length c.tables.result.now (vec_items c.args.network.now.tables) c.tables.ensures.value), (refl, refl))
+    record {
+      answer = (omega (arith, c.in-None.ensures.lookup.3, tables_length c.tables.result.now (vec_items c.args.network.now.tables) c.tables.ensures.value), (refl, refl));
+      books = tt;
+    }
