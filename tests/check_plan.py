@@ -1,6 +1,6 @@
 """Runs the program plan on many files and compares what it prints with the second reader and encoder.
 
-usage: check_plan.py PROGRAM [SEED [halves]]     with `halves` the program answers `half T` too
+usage: check_plan.py PROGRAM [SEED [halves]]     with `halves`, for session_plan, the program answers `half T` too
 Its last line is 'N passed, M failed'.
 """
 

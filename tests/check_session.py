@@ -1,6 +1,6 @@
-"""Runs plan, marks and the map program on many networks and scripts, and compares them with a second session.
+"""Runs session_plan, marks and the map program on many networks and scripts, and compares them with a second session.
 
-usage: check_session.py PLAN MARKS MAP [SEED]
+usage: check_session.py SESSION_PLAN MARKS MAP [SEED]
 Its last line is 'N passed, M failed'.
 """
 

@@ -1,6 +1,12 @@
 -- Why a clause book is not opened.
+use Rattle.std.specs.Prelude.{ℕ, Some, None, Option}
 use Rattle.clause_store.specs.declared.error.OpenError.{OpenError}
 use Rattle.clause_store.specs.declared.error.OpenError.TheVariants.{Unfit, OutOfMemory}
+
+-- the number that is printed: none where there was no memory
+abbrev pub number_of : OpenError → Option ℕ
+number_of Unfit = Some 20
+number_of OutOfMemory = None
 
 -- the error that says that there was no memory
 abbrev pub out_of_memory : OpenError

@@ -1,5 +1,5 @@
 ghost use Rattle.std.specs.Prelude.{◌≡◌};
-ghost use Rattle.clause_store.specs.Refusals.{out_of_memory};
+ghost use Rattle.clause_store.specs.Refusals.{out_of_memory, number_of};
 
 use std::alloc::{AllocError, AllocFailed};
 
@@ -10,6 +10,18 @@ pub enum OpenError {
     Unfit,
     // there was no memory for them
     OutOfMemory,
+}
+
+impl OpenError {
+    // The number that is printed: none for want of memory.
+    pub fn number(&self) -> Option<u8>
+        ensures { result ≡ number_of self.now }
+    {
+        match self {
+            OpenError::Unfit => Some(20),
+            OpenError::OutOfMemory => None,
+        }
+    }
 }
 
 impl From<AllocError> for OpenError {

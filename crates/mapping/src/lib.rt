@@ -2,9 +2,9 @@
 #![tactic(auto)]
 
 mod error;
-mod exported;
+mod for_c;
 mod mapping;
 
 pub use error::MapError;
-pub use exported::hazhgiti_map;
+pub use for_c::hazhgiti_map;
 pub use mapping::write_map;

@@ -1,4 +1,4 @@
-// The ends of a table, the partners of its values, and literals: what every encoding is made of.
+// The ends of a table, the partners of its values, and literals, each with its number. What `encodings` has of these stands there for its lists.
 #![tactic(auto)]
 
 pub mod ends;

@@ -1,4 +1,4 @@
-// The commands of the program plan, and what is written in answer.
+// The commands of the program session_plan, and what is written in answer.
 #![tactic(auto)]
 
 pub mod answers;

@@ -5,7 +5,6 @@ mod options;
 mod terminal;
 
 use anyhow::anyhow;
-use clause_store::OpenError;
 use computed::ComputedBook;
 use netfile::ReadError;
 use network::Network;
@@ -21,11 +20,13 @@ fn play<'a>(rt: &'a HostRuntime, network: &'a Network, encoding: Encoding) -> an
     let mut terminal = Terminal::new(rt, network)?;
     match runs::play(rt.alloc(), network.points(), &book, &mut terminal) {
         Ok(()) => terminal.finish(),
-        Err(OpenError::Unfit) => {
-            rt.println(text::refused_call(rt.alloc(), 20)?)?;
-            Ok(())
-        }
-        Err(OpenError::OutOfMemory) => Err(anyhow!("out of memory")),
+        Err(error) => match error.number() {
+            Some(number) => {
+                rt.println(text::refused_call(rt.alloc(), number)?)?;
+                Ok(())
+            }
+            None => Err(anyhow!("out of memory")),
+        },
     }
 }
 
