@@ -1,3 +1,4 @@
 pub mod Words
 pub mod Filling
 pub mod Reading
+pub mod Counting

@@ -2,3 +2,4 @@ pub mod Stored
 pub mod Refusals
 pub mod Storing
 pub mod Halves
+pub mod Lists

@@ -28,6 +28,7 @@ pub record IsStored (ws : List ℕ) : Type 0 where
   pub whole : count_of ws + 1 ≤ length ws
   pub rising : (i : ℕ) → i < count_of ws → start_of ws i ≤ end_of ws i
   pub inside : (i : ℕ) → i < count_of ws → end_of ws i ≤ length ws
+  deriving IsProp as IsStored-prop
 
 -- the ends of clauses whose first literal stands at the place
 abbrev pub ends_from : ℕ → List (List ℕ) → List ℕ

@@ -3,7 +3,7 @@ ghost use Rattle.theory.specs.Encodings.{score, scores};
 ghost use Rattle.books.specs.Stored.{IsStored, clauses_of};
 ghost use Rattle.books.specs.Halves.{book_end, better_of, Better};
 
-use crate::{ClauseBook, StoredBook, WordsRefusal, stored};
+use crate::{ClauseBook, StoredBook, WordsRefusal};
 use theory::Side;
 
 // A half as it lies in the caller's words, from word 0 to its end.
@@ -14,7 +14,7 @@ pub struct Half<'a> {
 }
 
 // The sums of the scores of a table's two halves, and the side of the better one: the lower on equal sums.
-#[derive(Clone, Copy)]
+#[derive(Clone, Copy, Debug, PartialEq, Eq)]
 pub struct HalfScores {
     pub better: Side,
     pub lower: usize,
@@ -39,11 +39,7 @@ pub fn score_sum<B: ClauseBook>(book: &B) -> usize
     requires { length (B.clauses book.now) < 2 ^ 32 }
     ensures { result ≡ scores (B.clauses book.now) }
 {
-    let mut sum = 0;
-    for i in 0..book.count() {
-        sum += score(book.length(i));
-    }
-    sum
+    (0..book.count()).map(|i| score(book.length(i))).sum()
 }
 
 // The better of two stored halves, as a part of the words that hold it: the lower on equal sums.
@@ -53,15 +49,15 @@ pub fn better<'a>(low: &'a [u32], high: &'a [u32]) -> Result<Half<'a>, WordsRefu
     let lower = StoredBook::new(low)?;
     let higher = StoredBook::new(high)?;
     if score_sum(&lower) < score_sum(&higher) {
-        let n = stored::end(high);
+        let n = higher.end();
         return Ok(Half {
             side: Side::Higher,
-            words: &high[0..n],
+            words: &high[..n],
         });
     }
-    let n = stored::end(low);
+    let n = lower.end();
     Ok(Half {
         side: Side::Lower,
-        words: &low[0..n],
+        words: &low[..n],
     })
 }

@@ -1,8 +1,9 @@
 ghost use Rattle.std.specs.Prelude.{◌≡◌};
 ghost use Rattle.books.specs.Refusals.{number_of, halves_number_of};
+ghost use Rattle.books.specs.declared.refusal.HalvesRefusal.TheVariants.{Words};
 
 // Why a call on words was refused.
-#[derive(Clone, Copy)]
+#[derive(Clone, Copy, Debug, PartialEq, Eq)]
 pub enum WordsRefusal {
     // there are too few words: this many are needed
     TooFewWords(usize),
@@ -15,6 +16,7 @@ impl WordsRefusal {
     pub fn number(&self) -> u8
         ensures { result ≡ number_of self.now }
     {
+        // a match and no discriminants: a variant holds a value
         match self {
             WordsRefusal::TooFewWords(_) => 18,
             WordsRefusal::NotStored => 19,
@@ -23,7 +25,7 @@ impl WordsRefusal {
 }
 
 // Why a call on the halves of a table was refused.
-#[derive(Clone, Copy)]
+#[derive(Clone, Copy, Debug, PartialEq, Eq)]
 pub enum HalvesRefusal {
     // there is no such table
     NoSuch,
@@ -36,9 +38,18 @@ impl HalvesRefusal {
     pub fn number(&self) -> u8
         ensures { result ≡ halves_number_of self.now }
     {
+        // a match and no discriminants: a variant holds a value
         match self {
             HalvesRefusal::NoSuch => 12,
             HalvesRefusal::Words(refusal) => refusal.number(),
         }
+    }
+}
+
+impl From<WordsRefusal> for HalvesRefusal {
+    ghost from_gives = { λ refusal r. r ≡ Words refusal };
+
+    fn from(refusal: WordsRefusal) -> HalvesRefusal {
+        HalvesRefusal::Words(refusal)
     }
 }

@@ -8,17 +8,14 @@ use crate::{ClauseBook, WordsRefusal};
 #[derive(Clone, Copy)]
 pub struct StoredBook<'a> {
     words: &'a [u32],
+    ghost stored: { IsStored words.now },
 }
 
 // A word, or 0 where there is none.
 fn word(words: &[u32], i: usize) -> usize
     ensures { result ≡ slice_index words.now i }
 {
-    if i < words.len() {
-        words[i] as usize
-    } else {
-        0
-    }
+    words.get(i).map_or(0, |word| *word as usize)
 }
 
 // The place of the first literal of clause i.
@@ -32,30 +29,16 @@ fn start(words: &[u32], i: usize) -> usize
     }
 }
 
-// Where a stored book ends.
-pub(crate) fn end(words: &[u32]) -> usize
-    requires { IsStored words.now }
-    ensures value { result ≡ start_of words.now (count_of words.now) }
-    ensures within { result ≤ length words.now }
-{
-    start(words, word(words, 0))
-}
-
 // Whether words are a stored book.
 fn is_stored(words: &[u32]) -> bool
     ensures { Decides result (IsStored words.now) }
 {
     let count = word(words, 0);
-    if count >= words.len() {
-        return false;
-    }
-    for i in 0..count {
-        let to = word(words, i + 1);
-        if start(words, i) > to || to > words.len() {
-            return false;
-        }
-    }
-    true
+    count < words.len()
+        && (0..count).all(|i| {
+            let to = word(words, i + 1);
+            start(words, i) <= to && to <= words.len()
+        })
 }
 
 impl<'a> StoredBook<'a> {
@@ -69,6 +52,14 @@ impl<'a> StoredBook<'a> {
             Err(WordsRefusal::NotStored)
         }
     }
+
+    // Where the book ends in its words.
+    pub(crate) fn end(&self) -> usize
+        ensures value { result ≡ start_of self.now.words.now (count_of self.now.words.now) }
+        ensures within { result ≤ length self.now.words.now }
+    {
+        start(self.words, word(self.words, 0))
+    }
 }
 
 impl<'a> ClauseBook for StoredBook<'a> {
@@ -79,18 +70,18 @@ impl<'a> ClauseBook for StoredBook<'a> {
     }
 
     fn length(&self, i: usize) -> usize {
-        if i >= word(self.words, 0) {
-            return 0;
+        if i < self.count() {
+            word(self.words, i + 1) - start(self.words, i)
+        } else {
+            0
         }
-        let from = start(self.words, i);
-        let to = word(self.words, i + 1);
-        to.min(self.words.len()).saturating_sub(from)
     }
 
     fn literal(&self, i: usize, j: usize) -> u32 {
-        if j >= self.length(i) {
-            return 0;
+        if j < self.length(i) {
+            self.words[start(self.words, i) + j]
+        } else {
+            0
         }
-        self.words[start(self.words, i) + j]
     }
 }

@@ -9,11 +9,8 @@ pub fn words_needed<B: ClauseBook>(book: &B) -> usize
     requires { words_needed (B.clauses book.now) < 2 ^ 32 }
     ensures { result ≡ words_needed (B.clauses book.now) }
 {
-    let mut n = 1 + book.count();
-    for i in 0..book.count() {
-        n += book.length(i);
-    }
-    n
+    let count = book.count();
+    1 + count + (0..count).map(|i| book.length(i)).sum::<usize>()
 }
 
 // Writes the literals of clause i from a place on.
@@ -21,6 +18,7 @@ fn write_clause<B: ClauseBook>(book: &B, i: usize, words: &mut [u32], place: usi
     requires { place + length (slice_index_or (B.clauses book.now) i []) ≤ length words.old }
     ensures { words.new ≡ (take place words.old ++ slice_index_or (B.clauses book.now) i []) ++ drop (place + length (slice_index_or (B.clauses book.now) i [])) words.old }
 {
+    // by number: a book is asked by number and has no slice
     for j in 0..book.length(i) {
         words[place + j] = book.literal(i, j);
     }
@@ -32,6 +30,7 @@ fn write_literals<B: ClauseBook>(book: &B, words: &mut [u32])
     ensures { words.new ≡ (take (length (B.clauses book.now) + 1) words.old ++ row (B.clauses book.now)) ++ drop (words_needed (B.clauses book.now)) words.old }
 {
     let mut place = book.count() + 1;
+    // by number: a book is asked by number and has no slice
     for i in 0..book.count() {
         write_clause(book, i, words, place);
         place += book.length(i);
@@ -46,12 +45,14 @@ fn write_ends<B: ClauseBook>(book: &B, words: &mut [u32])
 {
     words[0] = book.count() as u32;
     let mut end = book.count() + 1;
+    // by number: a book is asked by number and has no slice
     for i in 0..book.count() {
         end += book.length(i);
         words[1 + i] = end as u32;
     }
 }
 
+// That a word can hold each end stands in three contracts: it is a fact of no type, since any book may be stored.
 // Stores a book in the caller's words, and answers how many it took.
 pub fn store<B: ClauseBook>(book: &B, words: &mut [u32]) -> Result<usize, WordsRefusal>
     requires { words_needed (B.clauses book.now) < 2 ^ 32 }

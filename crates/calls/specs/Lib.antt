@@ -1,3 +1,4 @@
+pub mod Names
 pub mod Refusals
 pub mod States
 pub mod Replies

@@ -1,8 +1,12 @@
+ghost use Rattle.std.specs.Prelude.{Some};
+ghost use Rattle.calls.specs.Names.{decided_name};
+
 use crate::CallRefusal;
+use std::fmt;
 use theory::Mark;
 
 // What may be asked of a session. A value is named by its point and its number in that point.
-#[derive(Clone, Copy)]
+#[derive(Clone, Copy, Debug, PartialEq, Eq)]
 pub enum Call {
     // choose the value
     Choose(usize, usize),
@@ -23,7 +27,7 @@ pub enum Call {
 }
 
 // How a decision went that was not refused.
-#[derive(Clone, Copy)]
+#[derive(Clone, Copy, Debug, PartialEq, Eq)]
 pub enum Decided {
     // it stands
     Taken,
@@ -33,8 +37,20 @@ pub enum Decided {
     Already,
 }
 
+impl fmt::Display for Decided {
+    ghost output = { λ decided. Some (decided_name decided) };
+
+    fn fmt<W: fmt::Write>(&self, f: &mut fmt::Formatter<W>) -> fmt::Result {
+        f.write_str(match self {
+            Decided::Taken => "taken",
+            Decided::Clash => "clash",
+            Decided::Already => "already",
+        })
+    }
+}
+
 // A call and what was answered.
-#[derive(Clone, Copy)]
+#[derive(Clone, Copy, Debug, PartialEq, Eq)]
 pub enum Exchange {
     Choose(usize, usize, Result<Decided, CallRefusal>),
     Bar(usize, usize, Result<Decided, CallRefusal>),

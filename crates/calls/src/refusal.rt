@@ -2,20 +2,20 @@ ghost use Rattle.std.specs.Prelude.{◌≡◌};
 ghost use Rattle.calls.specs.Refusals.{number_of};
 
 // Why a call of a session was refused.
-#[derive(Clone, Copy)]
+#[derive(Clone, Copy, Debug, PartialEq, Eq)]
 pub enum CallRefusal {
     // there is no such point or value
-    NoSuch,
+    NoSuch = 12,
     // the value to choose is marked out
-    MarkedOut,
+    MarkedOut = 13,
     // the value to bar is marked in
-    MarkedIn,
+    MarkedIn = 14,
     // as many decisions stand as may stand
-    TooMany,
+    TooMany = 15,
     // the session is clashed
-    Clashed,
+    Clashed = 16,
     // no decision stands
-    NothingToWithdraw,
+    NothingToWithdraw = 17,
 }
 
 impl CallRefusal {
@@ -23,13 +23,6 @@ impl CallRefusal {
     pub fn number(&self) -> u8
         ensures { result ≡ number_of self.now }
     {
-        match self {
-            CallRefusal::NoSuch => 12,
-            CallRefusal::MarkedOut => 13,
-            CallRefusal::MarkedIn => 14,
-            CallRefusal::TooMany => 15,
-            CallRefusal::Clashed => 16,
-            CallRefusal::NothingToWithdraw => 17,
-        }
+        *self as u8
     }
 }

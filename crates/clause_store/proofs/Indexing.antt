@@ -1,68 +1,64 @@
--- The index, one literal after another.
-use Rattle.std.proofs.Common.{◌≡◌, ℕ, ◌+◌, ◌-◌, ◌<◌, ◌≤◌, List, [], ◌∷◌, ◌++◌, map, length, get_or, take, drop, sym, ap, ◌∙◌, subst, ⊎_elim, arith, below_more}
-use Rattle.std.proofs.lemmas.Bool.{cases_eq}
-use Rattle.std.proofs.lemmas.List.{length_push, length-append, get_or_push, get_or_append_left, drop-append-le, take-append-le, length-drop, drop_at, take_all}
-use Rattle.theory.specs.Lists.{◌∈◌}
-use Rattle.theory.proofs.Members.{in_append, in_map, map_in, in_at}
-use Rattle.clause_store.specs.Parts.{part, part_at}
-use Rattle.clause_store.specs.Chains.{Chained, Follows, Indexed}
-use Rattle.clause_store.proofs.Chaining.{places_within, places_whole}
+-- The index, one clause after another and one literal after another.
+use Rattle.std.proofs.Common.{◌≡◌, ℕ, zero, suc, ◌+◌, ◌<◌, Bool, true, false, ◌||◌, ◌&&◌, eqb, List, [], ◌∷◌, ◌++◌, length, get_or, set, take, Vec, vec_items, sym, refl, ap, ◌∙◌, ⊎_elim, arith}
+use Rattle.std.specs.declared.alloc.Global.{Global}
+use Rattle.std.specs.List.{FoldsTo}
+use Rattle.std.proofs.Math.Bool.{or-false}
+use Rattle.std.proofs.lemmas.Bool.{cases_eq, eq-eqb, ne_eqb}
+use Rattle.std.proofs.lemmas.List.{take_more, get_or_past, get_or-set_same, get_or-set_other}
+use Rattle.theory.specs.Lists.{has}
+use Rattle.books.specs.Lists.{lists_of}
 
-part_front : (xs more : List ℕ) (a b : ℕ) → a ≤ b → b ≤ length xs → part (xs ++ more) a b ≡ part xs a b
-part_front xs more a b h k =
-    ap (take (b - a)) (drop-append-le a xs more (omega arith)) ∙ take-append-le (b - a) (drop a xs) more (omega (arith, length-drop a xs))
+or_assoc : (a b c : Bool) → (a || (b || c)) ≡ ((a || b) || c)
+or_assoc true b c = refl
+or_assoc false b c = refl
 
-part_last : (xs more : List ℕ) (a b : ℕ) → a ≡ length xs → b ≡ length (xs ++ more) → part (xs ++ more) a b ≡ more
-part_last xs more a b p q =
-    ap (take (b - a)) (drop_at xs more a (sym p)) ∙ take_all (b - a) more (omega (arith, length-append xs more))
+has_push : (xs : List ℕ) (x j : ℕ) → has (xs ++ x ∷ []) j ≡ (has xs j || eqb j x)
+has_push [] x j = or-false (eqb j x)
+has_push (y ∷ ys) x j = ap (λ b. eqb j y || b) (has_push ys x j) ∙ or_assoc (eqb j y) (has ys j) (eqb j x)
 
--- the literal b more, with its owners behind those of the literals before it
-module _ (b n : ℕ) (literals owners before firsts more holders fs : List ℕ) (u : Indexed b n literals owners before firsts)
-    (is : holders ≡ before ++ more) (e : fs ≡ firsts ++ length holders ∷ []) (named : (x : ℕ) → x ∈ more → x ∈ owners)
-    (seen : (k : ℕ) → k < n → get_or literals k 0 ≡ b → get_or owners k 0 ∈ more) where
-  indexed_with : Indexed (b + 1) n literals owners holders fs
-  indexed_with = record {
-    many = ap length e ∙ length_push firsts (length holders) ∙ ap (λ x. x + 1) u.many;
-    last = last;
-    climb = below_more (λ l. get_or fs l 0 ≤ get_or fs (l + 1) 0) b (λ l h. omega (arith, early l (omega arith), early (l + 1) (omega arith), u.climb l h)) (omega (arith, early b (omega arith), last, u.last, long));
-    stop = below_more (λ l. get_or fs l 0 ≤ length holders) (b + 1) (λ l h. omega (arith, early l h, u.stop l h, long)) (omega (arith, last));
-    named = λ x i. ⊎_elim (u.named x) (named x) (in_append before more x (subst (λ xs. x ∈ xs) is i));
-    whole = whole;
-  }
-    where
-      long : length holders ≡ length before + length more
-      long = ap length is ∙ length-append before more
+-- the literal at hand, seen in the clause
+seen : (a b e : Bool) → ((a || (b && e)) || e) ≡ (a || ((b || true) && e))
+seen true b e = refl
+seen false true true = refl
+seen false true false = refl
+seen false false e = refl
 
-      last : get_or fs (b + 1) 0 ≡ length holders
-      last = ap (λ x. get_or x (b + 1) 0) e ∙ get_or_push firsts (length holders) 0 (b + 1) u.many
+-- any other literal
+unseen : (a b e : Bool) → (a || (b && e)) ≡ (a || ((b || false) && e))
+unseen a true e = refl
+unseen a false e = refl
 
-      early : (l : ℕ) → l < b + 1 → get_or fs l 0 ≡ get_or firsts l 0
-      early l h = ap (λ x. get_or x l 0) e ∙ get_or_append_left firsts (length holders ∷ []) 0 l (omega (arith, u.many))
-
-      whole : (l k : ℕ) → l < b + 1 → k < n → get_or literals k 0 ≡ l → get_or owners k 0 ∈ part_at holders fs l
-      whole l k h lt q =
-          ⊎_elim
-          (λ z. subst (λ xs. get_or owners k 0 ∈ xs)
-          (sym (ap (λ x. part x (get_or fs l 0) (get_or fs (l + 1) 0)) is ∙
-          part_last before more (get_or fs l 0) (get_or fs (l + 1) 0) (omega (arith, ap (λ x. get_or fs x 0) z, early b (omega arith), u.last)) (omega (arith, ap (λ x. get_or fs (x + 1) 0) z, last, ap length is))))
-          (seen k lt (q ∙ z)))
-          (λ ne. subst (λ xs. get_or owners k 0 ∈ xs)
-          (sym (ap (λ x. part x (get_or fs l 0) (get_or fs (l + 1) 0)) is ∙
-          part_front before more (get_or fs l 0) (get_or fs (l + 1) 0) (omega (arith, early l h, early (l + 1) (omega arith), u.climb l (omega arith))) (omega (arith, early (l + 1) (omega arith), u.stop (l + 1) (omega arith))) ∙
-          ap (λ x. part before x (get_or fs (l + 1) 0)) (early l h) ∙ ap (part before (get_or firsts l 0)) (early (l + 1) (omega arith))))
-          (u.whole l k (omega arith) lt q))
-          (cases_eq l b)
-
--- the literal b more, by its chain
-pub indexed_more :
-    (bound b n : ℕ) (literals heads links owners before firsts holders fs : List ℕ) → Chained bound n literals heads links → length owners ≡ n → b < bound →
-    Indexed b n literals owners before firsts → Follows links owners (get_or heads b 0) before holders → fs ≡ firsts ++ length holders ∷ [] →
-    Indexed (b + 1) n literals owners holders fs
-indexed_more bound b n literals heads links owners before firsts holders fs w many lt u f e =
-    indexed_with b n literals owners before firsts (map own f.0) holders fs u f.2 e
-    (λ x i. let r = in_map own f.0 x i in
-    subst (λ y. y ∈ owners) (sym r.2) (in_at owners 0 r.0 (omega (arith, many, places_within bound n b literals heads links w (get_or heads b 0) f.0 (w.head_within b lt) f.1 r.0 r.1))))
-    (λ k h q. map_in own f.0 k (places_whole bound n b literals heads links w (get_or heads b 0) f.0 (w.head_within b lt) (w.head_same b lt) f.1 k (w.head_last b k lt h q) q))
+-- one literal more of clause i
+pub held_more :
+    (hs olds : List (List ℕ)) (c : List ℕ) (k i m j : ℕ) → k < length c → get_or c k 0 < length hs →
+    has (get_or hs m []) j ≡ (has (get_or olds m []) j || (has (take k c) m && eqb j i)) →
+    has (get_or (set hs (get_or c k 0) (get_or hs (get_or c k 0) [] ++ i ∷ [])) m []) j ≡ (has (get_or olds m []) j || (has (take (k + 1) c) m && eqb j i))
+held_more hs olds c k i m j lt in_hs was = ⊎_elim same other (cases_eq m x)
   where
-    own : ℕ → ℕ
-    own k = get_or owners k 0
+    x : ℕ
+    x = get_or c k 0
+
+    old : Bool
+    old = has (get_or olds m []) j
+
+    more : has (take (k + 1) c) m ≡ (has (take k c) m || eqb m x)
+    more = ap (λ ys. has ys m) (take_more c k 0 lt) ∙ has_push (take k c) x m
+
+    same : m ≡ x → has (get_or (set hs x (get_or hs x [] ++ i ∷ [])) m []) j ≡ (old || (has (take (k + 1) c) m && eqb j i))
+    same e =
+        let there = ap (λ n. get_or (set hs x (get_or hs x [] ++ i ∷ [])) n []) e ∙ get_or-set_same hs x (get_or hs x [] ++ i ∷ []) [] in_hs in
+        ap (λ ys. has ys j) there ∙ has_push (get_or hs x []) i j ∙ ap (λ n. has (get_or hs n []) j || eqb j i) (sym e) ∙ ap (λ b. b || eqb j i) was ∙
+        seen old (has (take k c) m) (eqb j i) ∙ ap (λ b. old || ((has (take k c) m || b) && eqb j i)) (sym (eq-eqb m x e)) ∙ ap (λ b. old || (b && eqb j i)) (sym more)
+
+    other : (m ≡ x → ⊥) → has (get_or (set hs x (get_or hs x [] ++ i ∷ [])) m []) j ≡ (old || (has (take (k + 1) c) m && eqb j i))
+    other ne =
+        ap (λ ys. has ys j) (get_or-set_other hs x m (get_or hs x [] ++ i ∷ []) [] ne) ∙ was ∙ unseen old (has (take k c) m) (eqb j i) ∙
+        ap (λ b. old || ((has (take k c) m || b) && eqb j i)) (sym (ne_eqb m x ne)) ∙ ap (λ b. old || (b && eqb j i)) (sym more)
+
+-- vectors that were made empty hold nothing at any place
+pub made_bare :
+    {F : Type 0} (step : F → Vec ℕ Global → F → Type 0) → ((p : F) (v : Vec ℕ Global) (q : F) → step p v q → vec_items v ≡ []) →
+    (vs : List (Vec ℕ Global)) (f last : F) → FoldsTo step f vs last → (l : ℕ) → get_or (lists_of vs) l [] ≡ []
+made_bare step bare [] f last h l = get_or_past {X = List ℕ} [] l [] (omega arith)
+made_bare step bare (v ∷ vs) f last h zero = bare f v h.0 h.1
+made_bare step bare (v ∷ vs) f last h (suc l) = made_bare step bare vs h.0 last h.2 l

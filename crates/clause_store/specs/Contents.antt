@@ -1,16 +1,16 @@
 -- The clauses of a store, and the clauses that hold a literal.
-use Rattle.std.specs.Prelude.{ℕ, List, vec_items}
+use Rattle.std.specs.Prelude.{ℕ, List, [], slice_index_or, vec_items}
 use Rattle.clause_store.specs.declared.store.ClauseStore.{ClauseStore}
-use Rattle.clause_store.specs.Parts.{part_at, parts_of}
+use Rattle.books.specs.Lists.{lists_of}
 
 -- the clauses, in order
 abbrev pub clauses_of : ClauseStore → List (List ℕ)
-clauses_of s = parts_of (vec_items s.literals) (vec_items s.starts)
+clauses_of s = lists_of (vec_items s.clauses)
 
 -- clause i
 abbrev pub clause_of : ClauseStore → ℕ → List ℕ
-clause_of s i = part_at (vec_items s.literals) (vec_items s.starts) i
+clause_of s i = slice_index_or (clauses_of s) i []
 
 -- the numbers of the clauses that the index has for the literal l
 abbrev pub holding_of : ClauseStore → ℕ → List ℕ
-holding_of s l = part_at (vec_items s.holders) (vec_items s.firsts) l
+holding_of s l = slice_index_or (lists_of (vec_items s.holders)) l []

@@ -1,6 +1,4 @@
-pub mod Parts
-pub mod Layout
-pub mod Contents
 pub mod Fitness
 pub mod Refusals
-pub mod Chains
+pub mod Index
+pub mod Contents

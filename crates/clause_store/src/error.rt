@@ -4,7 +4,7 @@ ghost use Rattle.clause_store.specs.Refusals.{out_of_memory, number_of};
 use std::alloc::{AllocError, AllocFailed};
 
 // Why a clause book was not opened.
-#[derive(Clone, Copy)]
+#[derive(Clone, Copy, Debug, PartialEq, Eq)]
 pub enum OpenError {
     // the clauses are not fit
     Unfit,
@@ -17,6 +17,7 @@ impl OpenError {
     pub fn number(&self) -> Option<u8>
         ensures { result ≡ number_of self.now }
     {
+        // a match and no discriminants: one variant has no number
         match self {
             OpenError::Unfit => Some(20),
             OpenError::OutOfMemory => None,
@@ -24,6 +25,7 @@ impl OpenError {
     }
 }
 
+// By hand, as for each error type: a derived conversion has no contract that names the variant.
 impl From<AllocError> for OpenError {
     ghost from_gives = { λ _ r. r ≡ out_of_memory };
 

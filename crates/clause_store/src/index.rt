@@ -1,36 +1,37 @@
-ghost use Rattle.std.specs.Prelude.{◌≡◌, ℕ, ◌<◌, length, IfOk, slice_index};
-ghost use Rattle.clause_store.specs.Chains.{Indexed};
+ghost use Rattle.std.specs.Prelude.{◌≡◌, ℕ, ◌*◌, ◌<◌, ◌^◌, [], length, IfOk, OnOk, slice_index, slice_index_or, vec_len, ◌||◌, ◌&&◌, ◌==◌};
+ghost use Rattle.theory.specs.Literals.{Within};
+ghost use Rattle.theory.specs.Lists.{has};
+ghost use Rattle.books.specs.Lists.{lists_of};
+ghost use Rattle.clause_store.specs.Index.{Indexes};
 
-use crate::chains::Chains;
 use std::alloc::{AllocError, Global};
 
-// For each literal the clauses that hold it: in one row, and where those of each literal start and the last ones end.
-#[derive(Drop)]
-pub(crate) struct Index {
-    pub(crate) holders: Vec<usize>,
-    pub(crate) firsts: Vec<usize>,
+// Names clause i among the holders of each of its literals.
+fn add_holder(holders: &mut [Vec<usize>], clause: &[u32], i: usize) -> Result<(), AllocError>
+    requires { (k : ℕ) → k < length clause.now → slice_index clause.now k < length holders.old }
+    ensures { OnOk result ((l j : ℕ) → has (slice_index_or (lists_of holders.new) l []) j ≡ (has (slice_index_or (lists_of holders.old) l []) j || (has clause.now l && j == i))) }
+{
+    for literal in clause {
+        holders[*literal as usize].push(i)?;
+    }
+    Ok(())
 }
 
-impl Index {
-    // The index of a row of literals below the bound, by the owner of each place.
-    pub(crate) fn new(
-        heap: Global,
-        literals: &[u32],
-        owners: &[usize],
-        bound: usize,
-    ) -> Result<Index, AllocError>
-        requires within { (k : ℕ) → k < length literals.now → slice_index literals.now k < bound }
-        requires same { length owners.now ≡ length literals.now }
-        ensures { IfOk result (λ x. Indexed bound (length literals.now) literals.now owners.now x.holders.items x.firsts.items) }
-    {
-        let chains = Chains::new(heap, literals, bound)?;
-        let mut holders = Vec::new(heap);
-        let mut firsts = Vec::new(heap);
-        firsts.push(0)?;
-        for literal in 0..bound {
-            chains.follow(literal, owners, &mut holders)?;
-            firsts.push(holders.len())?;
-        }
-        Ok(Index { holders, firsts })
+// For each literal of so many values the numbers of the clauses that hold it.
+pub(crate) fn index(
+    heap: Global,
+    clauses: &[Vec<u32>],
+    values: usize,
+) -> Result<Vec<Vec<usize>>, AllocError>
+    requires few { values < 2 ^ 31 }
+    requires within { Within values (lists_of clauses.now) }
+    ensures wide { IfOk result (λ h. vec_len h ≡ 2 * values) }
+    ensures exact { IfOk result (λ h. Indexes (lists_of clauses.now) (lists_of h.items)) }
+{
+    let mut holders = Vec::new(heap);
+    holders.resize_with(2 * values, || Vec::new(heap))?;
+    for (i, clause) in clauses.iter().enumerate() {
+        add_holder(&mut holders, clause, i)?;
     }
+    Ok(holders)
 }

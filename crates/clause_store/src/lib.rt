@@ -1,11 +1,9 @@
-// Clause stores: a list of clauses in one row of literals, with an index from each literal to the clauses that hold it.
+// Clause stores: a list of clauses, with an index from each literal to the clauses that hold it.
 #![tactic(auto)]
 
-mod chains;
 mod error;
 mod gather;
 mod index;
-mod owners;
 mod store;
 
 pub use error::OpenError;

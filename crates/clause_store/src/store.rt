@@ -1,16 +1,19 @@
-ghost use Rattle.clause_store.specs.Layout.{LaidOut};
+ghost use Rattle.std.specs.Prelude.{◌≡◌, ◌*◌, vec_len};
+ghost use Rattle.theory.specs.Literals.{Within};
+ghost use Rattle.books.specs.Lists.{lists_of};
+ghost use Rattle.clause_store.specs.Index.{NoneBare, Indexes};
 
 mod opening;
 mod reads;
 
-// A list of clauses over so many values: the literals in one row, where each clause starts and the last one ends,
-// and, for each literal, the clauses that hold it: in one row, and where those of each literal start.
+// A list of clauses over so many values, and, for each literal, the numbers of the clauses that hold it.
 #[derive(Drop)]
 pub struct ClauseStore {
     values: usize,
-    literals: Vec<u32>,
-    starts: Vec<usize>,
-    holders: Vec<usize>,
-    firsts: Vec<usize>,
-    ghost ok: { ∥ LaidOut values literals.items starts.items holders.items firsts.items ∥₁ },
+    clauses: Vec<Vec<u32>>,
+    holders: Vec<Vec<usize>>,
+    ghost within: { Within values (lists_of clauses.items) },
+    ghost filled: { NoneBare (lists_of clauses.items) },
+    ghost wide: { vec_len holders ≡ 2 * values },
+    ghost indexed: { Indexes (lists_of clauses.items) (lists_of holders.items) },
 }

@@ -1,30 +1,31 @@
 -- Texts that are put together piece by piece.
-use Rattle.std.proofs.Common.{◌≡◌, ℕ, ◌+◌, ◌<◌, List, [], ◌∷◌, ◌++◌, map, length, get_or, take, drop, codes, decimal, sym, refl, ap, ◌∙◌, arith}
-use Rattle.std.specs.List.{flat_map}
-use Rattle.std.proofs.lemmas.List.{append_assoc, flat_map_more, take_more}
-use Rattle.commands.specs.Texts.{spaced, clause_text}
+use Rattle.std.proofs.Common.{◌≡◌, ℕ, zero, suc, ◌+◌, ◌<◌, List, [], ◌∷◌, ◌++◌, length, get_or, take, codes, decimal, sym, refl, ap, ◌∙◌, arith}
+use Rattle.std.proofs.lemmas.List.{append_assoc, append-nil, flat_map_more, take_more}
+use Rattle.commands.specs.Texts.{spaced, literals_text}
 
--- one piece more
-pub piece_more :
-    {X : Type 0} (f : X → List ℕ) (base : List ℕ) (xs : List X) (i : ℕ) (x : X) (was is : List ℕ) → i < length xs → x ≡ get_or xs i x →
-    was ≡ base ++ flat_map f (take i xs) → is ≡ was ++ f x → is ≡ base ++ flat_map f (take (i + 1) xs)
-piece_more f base xs i x was is h e before now =
-    now ∙ ap (λ t. t ++ f x) before ∙ flat_map_more f base (take i xs) x ∙
-    ap (λ t. base ++ flat_map f t) (ap (λ y. take i xs ++ y ∷ []) e ∙ sym (take_more xs i x h))
+-- what stands before the literal j: a space behind the first
+abbrev pub separator : ℕ → List ℕ
+separator zero = []
+separator (suc j) = codes " "
 
--- a clause's line: its first literal, the others each after a space, and the line's end
-pub line_of :
-    (c : List ℕ) (start one two three : List ℕ) → 0 < length c → one ≡ start ++ decimal (get_or c 0 0) → two ≡ one ++ spaced (drop 1 c) →
-    three ≡ two ++ codes "\n" → three ≡ start ++ clause_text c
-line_of [] start one two three h a b c = absurd (omega arith)
-line_of (x ∷ xs) start one two three h a b c =
-    c ∙ ap (λ t. t ++ codes "\n") (b ∙ ap (λ t. t ++ spaced xs) a ∙ append_assoc start (decimal x) (spaced xs)) ∙
-    append_assoc start (decimal x ++ spaced xs) (codes "\n")
+pub separator_later : (j : ℕ) → 0 < j → separator j ≡ codes " "
+separator_later zero h = absurd (omega arith)
+separator_later (suc j) h = refl
 
-pub line_of_none : (c start : List ℕ) → length c ≡ 0 → start ++ codes "\n" ≡ start ++ clause_text c
-line_of_none [] start h = refl
-line_of_none (x ∷ xs) start h = absurd (omega arith)
+-- one literal more
+literal_more : (c : List ℕ) (j l : ℕ) → j < length c → l ≡ get_or c j 0 → literals_text (take (j + 1) c) ≡ literals_text (take j c) ++ (separator j ++ decimal l)
+literal_more [] j l h e = absurd (omega arith)
+literal_more (x ∷ xs) zero l h e = append-nil (decimal x) ∙ ap decimal (sym e)
+literal_more (x ∷ xs) (suc j) l h e =
+    let next : suc j + 1 ≡ suc (j + 1) = omega arith in
+    rw next
+    (ap (λ t. decimal x ++ spaced t) (take_more xs j 0 (omega arith) ∙ ap (λ y. take j xs ++ y ∷ []) (sym e)) ∙
+    sym (flat_map_more (λ k. codes " " ++ decimal k) (decimal x) (take j xs) l))
 
-pub joined_map : {X Y : Type 0} (f : Y → List ℕ) (g : X → Y) (xs : List X) → flat_map f (map g xs) ≡ flat_map (λ x. f (g x)) xs
-joined_map f g [] = refl
-joined_map f g (x ∷ xs) = ap (λ t. f (g x) ++ t) (joined_map f g xs)
+-- the literal j is written behind those before it
+pub literal_written :
+    (c : List ℕ) (j l : ℕ) (start was between is : List ℕ) → j < length c → l ≡ get_or c j 0 → between ≡ separator j →
+    was ≡ start ++ literals_text (take j c) → is ≡ was ++ (between ++ decimal l) → is ≡ start ++ literals_text (take (j + 1) c)
+literal_written c j l start was between is h e b before now =
+    now ∙ ap (λ t. was ++ (t ++ decimal l)) b ∙ ap (λ t. t ++ (separator j ++ decimal l)) before ∙
+    append_assoc start (literals_text (take j c)) (separator j ++ decimal l) ∙ ap (λ t. start ++ t) (sym (literal_more c j l h e))

@@ -1,2 +1,2 @@
-pub mod Decimals
 pub mod Joining
+pub mod Decimals

@@ -1,18 +1,11 @@
 -- What a line of input asks for.
-use Rattle.std.specs.Prelude.{ℕ, ◌+◌, ◌-◌, ◌*◌, ◌^◌, min, Bool, true, cond, ◌&&◌, List, [], ◌∷◌, length, take, drop, Some, None, codes, Option, nat_le}
-use Rattle.std.specs.Str.{bytes_eq}
-use Rattle.theory.specs.declared.Encoding.TheVariants.{Direct, Support, MinimalSupport}
+use Rattle.std.specs.Prelude.{ℕ, ◌+◌, ◌-◌, ◌*◌, ◌^◌, min, cond, List, [], ◌∷◌, drop, Some, None, codes, Option, nat_eq}
+use Rattle.std.specs.Char.{is_ascii_digit}
+use Rattle.std.specs.List.{list_all, starts_with}
+use Rattle.std.specs.Option.{option_map}
+use Rattle.theory.specs.Names.{encoding_named}
 use Rattle.commands.specs.declared.command.Command.{Command}
-use Rattle.commands.specs.declared.command.Command.TheVariants.{Number, Clauses, Unknown}
-
--- whether a text begins with a word
-abbrev pub begins : List ℕ → List ℕ → Bool
-begins word text = nat_le (length word) (length text) && bytes_eq (take (length word) text) word
-
--- whether each byte is a decimal digit
-abbrev pub digits : List ℕ → Bool
-digits [] = true
-digits (b ∷ bs) = (nat_le 48 b && nat_le b 57) && digits bs
+use Rattle.commands.specs.declared.command.Command.TheVariants.{Number, Clauses}
 
 -- the number that decimal digits write after the number n
 abbrev pub value_after : ℕ → List ℕ → ℕ
@@ -26,22 +19,10 @@ most = 2 ^ 64 - 1
 -- a decimal number of one digit or more
 abbrev pub decimal_of : List ℕ → Option ℕ
 decimal_of [] = None
-decimal_of (b ∷ bs) = cond (digits (b ∷ bs)) (Some (min (value_after 0 (b ∷ bs)) most)) None
-
--- a question for a value number
-abbrev pub as_number : Option ℕ → Command
-as_number None = Unknown
-as_number (Some n) = Number n
-
--- a question for clauses, by the name of the encoding
-abbrev pub as_clauses : List ℕ → Command
-as_clauses name =
-    cond (bytes_eq name (codes "direct")) (Clauses Direct)
-    (cond (bytes_eq name (codes "support")) (Clauses Support)
-    (cond (bytes_eq name (codes "minimal")) (Clauses MinimalSupport) Unknown))
+decimal_of (b ∷ bs) = cond (list_all is_ascii_digit (b ∷ bs)) (Some (min (value_after 0 (b ∷ bs)) most)) None
 
 -- the command that a line gives: `number` or `clauses`, a space, and what is asked for
-abbrev pub command_of : List ℕ → Command
+abbrev pub command_of : List ℕ → Option Command
 command_of line =
-    cond (begins (codes "number ") line) (as_number (decimal_of (drop 7 line)))
-    (cond (begins (codes "clauses ") line) (as_clauses (drop 8 line)) Unknown)
+    cond (starts_with nat_eq line (codes "number ")) (option_map Number (decimal_of (drop 7 line)))
+    (cond (starts_with nat_eq line (codes "clauses ")) (option_map Clauses (encoding_named (drop 8 line))) None)

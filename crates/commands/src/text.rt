@@ -1,8 +1,11 @@
-ghost use Rattle.std.specs.Prelude.{◌≡◌, ◌++◌, map, IfOk, vec_items, string_bytes, decimal, OnOk};
-ghost use Rattle.commands.specs.Texts.{place_text, refused_text, spaced, clause_text, clauses_text};
+ghost use Rattle.std.specs.Prelude.{◌≡◌, [], ◌++◌, IfOk, string_bytes, OnOk, slice_index_or};
+ghost use Rattle.commands.specs.Texts.{place_text, refused_text, clause_text, clauses_text};
 
+use books::ClauseBook;
 use std::alloc::{AllocError, Global};
+use std::fmt::Write;
 
+// `place` and `refused` are functions and no `Display`: what they show are numbers and options of numbers.
 // A point and a value, or that there is none.
 pub fn place(heap: Global, found: Option<(usize, usize)>) -> Result<String, AllocError>
     ensures { IfOk result (λ s. string_bytes s ≡ place_text found) }
@@ -20,47 +23,28 @@ pub fn refused(heap: Global, number: u8, place: usize) -> Result<String, AllocEr
     format!(in heap; "refused {number} at {place}")
 }
 
-// Adds a number.
-fn push_number(out: &mut String, heap: Global, n: u32) -> Result<(), AllocError>
-    ensures { OnOk result (string_bytes out.new ≡ string_bytes out.old ++ decimal n) }
+// Adds a line for clause i, its literals one space apart.
+fn push_clause<B: ClauseBook>(out: &mut String, book: &B, i: usize) -> Result<(), AllocError>
+    ensures { OnOk result (string_bytes out.new ≡ string_bytes out.old ++ clause_text (slice_index_or (B.clauses book.now) i [])) }
 {
-    let text = n.to_string(heap)?;
-    out.push_str(text.as_str())
-}
-
-// Adds each literal after a space.
-fn push_spaced(out: &mut String, heap: Global, literals: &[u32]) -> Result<(), AllocError>
-    ensures { OnOk result (string_bytes out.new ≡ string_bytes out.old ++ spaced literals.now) }
-{
-    for l in literals {
-        out.push_str(" ")?;
-        push_number(out, heap, *l)?;
+    // a `for`: each write may fail
+    for j in 0..book.length(i) {
+        let separator = if j == 0 { "" } else { " " };
+        let literal = book.literal(i, j);
+        write!(out, "{separator}{literal}")?;
     }
-    Ok(())
+    writeln!(out)
 }
 
-// Adds a line for a clause.
-fn push_clause(out: &mut String, heap: Global, clause: &[u32]) -> Result<(), AllocError>
-    ensures { OnOk result (string_bytes out.new ≡ string_bytes out.old ++ clause_text clause.now) }
+// How many clauses a book has, and then a line a clause.
+pub fn clauses<B: ClauseBook>(heap: Global, book: &B) -> Result<String, AllocError>
+    ensures { IfOk result (λ s. string_bytes s ≡ clauses_text (B.clauses book.now)) }
 {
-    if clause.is_empty() {
-        out.push_str("\n")?;
-        return Ok(());
-    }
-    push_number(out, heap, clause[0])?;
-    push_spaced(out, heap, &clause[1..])?;
-    out.push_str("\n")?;
-    Ok(())
-}
-
-// How many clauses there are, and then a line a clause, its literals one space apart.
-pub fn clauses(heap: Global, clauses: &[Vec<u32>]) -> Result<String, AllocError>
-    ensures { IfOk result (λ s. string_bytes s ≡ clauses_text (map vec_items clauses.now)) }
-{
-    let count = clauses.len();
+    let count = book.count();
     let mut out = format!(in heap; "{count}\n")?;
-    for clause in clauses {
-        push_clause(&mut out, heap, clause)?;
+    // a `for`: each line may fail
+    for i in 0..count {
+        push_clause(&mut out, book, i)?;
     }
     Ok(out)
 }

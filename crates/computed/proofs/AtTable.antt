@@ -1,13 +1,9 @@
 -- What a function gives for the table at a place.
-use Rattle.std.proofs.Common.{◌≡◌, ℕ, ◌+◌, ◌-◌, ◌<◌, ◌≤◌, List, [], ◌∷◌, ◌++◌, map, length, get_or, take, set, sym, refl, ap, ◌∙◌, arith}
-use Rattle.std.proofs.lemmas.List.{get_or-map, get_or_past, get_or-append_right, length-map, take-map, take_more, take_more_set}
+use Rattle.std.proofs.Common.{◌≡◌, ℕ, ◌+◌, ◌<◌, List, [], ◌∷◌, ◌++◌, map, length, get_or, take, set, sym, ap, ◌∙◌, arith}
+use Rattle.std.proofs.lemmas.List.{get_or-map, length-map, take-map, take_more, take_more_set}
 use Rattle.theory.specs.Network.{Table as TableMeaning}
 use Rattle.network.specs.declared.table.Table.{Table}
 use Rattle.network.specs.Tables.{table_of, tables_of}
-
--- behind the first element
-pub get_or_behind : {A : Type 0} (x : A) (xs : List A) (j : ℕ) (d : A) → 0 < j → get_or (x ∷ xs) j d ≡ get_or xs (j - 1) d
-get_or_behind x xs j d h = get_or-append_right (x ∷ []) xs 1 j d refl (omega arith)
 
 module _ (us vs : List Table) (same : us ≡ vs) where
   pub tables_length : length (tables_of vs) ≡ length us
@@ -18,9 +14,6 @@ module _ (us vs : List Table) (same : us ≡ vs) where
     table_at d x h e =
         ap (λ ts. get_or (map f (tables_of ts)) k d) (sym same) ∙
         get_or-map f (tables_of us) k (table_of x) d (omega (arith, length-map us table_of)) ∙ ap f (get_or-map table_of us k x (table_of x) h ∙ ap table_of (sym e))
-
-    pub table_past : (d : A) → length us ≤ k → get_or (map f (tables_of vs)) k d ≡ d
-    table_past d h = get_or_past (map f (tables_of vs)) k d (omega (arith, length-map (tables_of vs) f, tables_length))
 
     -- one value more is written, that of the table at the place
     pub table_more : (ns : List A) (n : A) (x : Table) → k < length us → k < length ns → x ≡ get_or us k x → n ≡ f (table_of x) →

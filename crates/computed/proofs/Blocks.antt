@@ -1,65 +1,97 @@
--- Finding an element of a list that is joined from blocks, by walking the blocks.
-use Rattle.std.proofs.Common.{◌≡◌, ℕ, zero, suc, ◌+◌, ◌-◌, ◌<◌, ◌≤◌, List, [], ◌∷◌, ◌++◌, map, length, get_or, take, refl, ap, ◌∙◌, add-one, arith}
+-- An element of a list that is joined from blocks, by the block that it lies in.
+use Rattle.std.proofs.Common.{◌≡◌, ℕ, zero, suc, ◌-◌, ◌<◌, ◌≤◌, Bool, true, false, cond, ltb, List, [], ◌∷◌, ◌++◌, map, length, get_or, Some, None, Option, slice_get, sym, refl, ap, ◌∙◌, subst, ⊎_elim, add-one, arith}
 use Rattle.std.specs.List.{range_with_len, flat_map}
+use Rattle.std.specs.Option.{option_and_then}
 use Rattle.std.proofs.lemmas.List.FromFn.{length-range_with_len, get_or-map-range_with_len}
-use Rattle.std.proofs.lemmas.List.{get_or_append_left, get_or-append_right, get_or_past, take_all, length-append}
+use Rattle.std.proofs.lemmas.List.{get_or_past, length-map}
+use Rattle.std.proofs.lemmas.Bool.{cases_lt, ltb-true, ltb-false}
+use Rattle.theory.specs.Numbering.{place, later}
+use Rattle.network.specs.Points.{Undone}
+use Rattle.network.proofs.Places.{place_undone}
+use Rattle.computed.proofs.Measured.{length_at}
+
+pub get_in_front : {A : Type 0} (xs ys : List A) (i : ℕ) → i < length xs → slice_get (xs ++ ys) i ≡ slice_get xs i
+get_in_front [] ys i h = absurd (omega arith)
+get_in_front (x ∷ xs) ys zero h = refl
+get_in_front (x ∷ xs) ys (suc i) h = get_in_front xs ys i (omega arith)
+
+pub get_behind : {A : Type 0} (xs ys : List A) (n i : ℕ) → length xs ≡ n → n ≤ i → slice_get (xs ++ ys) i ≡ slice_get ys (i - n)
+get_behind [] ys n i e h = ap (slice_get ys) (omega arith)
+get_behind (x ∷ xs) ys n zero e h = absurd (omega arith)
+get_behind (x ∷ xs) ys n (suc i) e h = get_behind xs ys (length xs) i refl (omega arith) ∙ ap (slice_get ys) (omega arith)
+
+-- an element of a block that is given by its number and a place in it
+abbrev pub in_blocks : {A : Type 0} → List (List A) → ℕ × ℕ → Option A
+in_blocks ls p = slice_get (get_or ls p.0 []) p.1
+
+-- one block more in front
+one_further : {A : Type 0} (l : List A) (ls : List (List A)) (o : Option (ℕ × ℕ)) → option_and_then (in_blocks ls) o ≡ option_and_then (in_blocks (l ∷ ls)) (later o)
+one_further l ls None = refl
+one_further l ls (Some p) = rw add-one refl
 
 module _ {X A : Type 0} (f : X → List A) where
-  -- how many elements the first k blocks have
-  abbrev pub before : List X → ℕ → ℕ
-  before xs k = length (flat_map f (take k xs))
+  -- an element of the joined list lies where the walk over the sizes of the blocks finds it
+  pub get_joined : (xs : List X) (n : ℕ) → slice_get (flat_map f xs) n ≡ option_and_then (in_blocks (map f xs)) (place (map (λ x. length (f x)) xs) n)
+  get_joined [] n = refl
+  get_joined (x ∷ xs) n = go (ltb n (length (f x))) refl (get_joined xs (n - length (f x)))
+    where
+      rest : Option (ℕ × ℕ)
+      rest = place (map (λ x. length (f x)) xs) (n - length (f x))
 
-  -- one block more
-  pub before_more : (xs : List X) (k : ℕ) → k < length xs → before xs (k + 1) ≡ before xs k + length (get_or (map f xs) k [])
-  before_more [] k h = absurd (omega arith)
-  before_more (x ∷ xs) zero h = omega (arith, length-append (f x) (flat_map f (take 0 xs)))
-  before_more (x ∷ xs) (suc k) h =
-      let more = rw add-one at (before_more xs k (omega arith)) in
-      rw add-one (omega (arith, length-append (f x) (flat_map f (take (suc k) xs)), length-append (f x) (flat_map f (take k xs))))
+      go : (b : Bool) → ltb n (length (f x)) ≡ b → slice_get (flat_map f xs) (n - length (f x)) ≡ option_and_then (in_blocks (map f xs)) rest →
+          slice_get (f x ++ flat_map f xs) n ≡ option_and_then (in_blocks (f x ∷ map f xs)) (cond b (Some (0, n)) (later rest))
+      go true e later_on = get_in_front (f x) (flat_map f xs) n (ltb-true n (length (f x)) e)
+      go false e later_on =
+          get_behind (f x) (flat_map f xs) (length (f x)) n refl (ltb-false n (length (f x)) e) ∙
+          later_on ∙ one_further (f x) (map f xs) rest
 
-  -- all blocks
-  pub before_all : (xs : List X) (k : ℕ) → length xs ≤ k → before xs k ≡ length (flat_map f xs)
-  before_all xs k h = ap (λ ys. length (flat_map f ys)) (take_all k xs h)
+-- a place that is found is one of those that its block has
+pub place_within : (ks : List ℕ) (n k m : ℕ) → Some (k, m) ≡ place ks n → (k < length ks) × (m < get_or ks k 0)
+place_within ks n k m e =
+    let u : Undone ks n (Some (k, m)) = subst (Undone ks n) (sym e) (place_undone ks n) in
+    (⊎_elim (λ h. h) (λ (h : length ks ≤ k). absurd (omega (arith, get_or_past ks k 0 h, u.0))) (cases_lt k (length ks)), u.0)
 
-  pub before_most : (xs : List X) (k : ℕ) → before xs k ≤ length (flat_map f xs)
-  before_most [] zero = omega arith
-  before_most [] (suc k) = omega arith
-  before_most (x ∷ xs) zero = omega arith
-  before_most (x ∷ xs) (suc k) =
-      omega (arith, length-append (f x) (flat_map f (take k xs)), length-append (f x) (flat_map f xs), before_most xs k)
+-- blocks walked by what a function gives for each
+module _ {X A : Type 0} (P : ℕ → ℕ → Type 0) (f : X → List A) (xs : List X) (b n : ℕ) (o : Option (ℕ × ℕ)) (long : length xs ≡ b)
+    (walked : (sizes : List ℕ) → length sizes ≡ b → ((i r : ℕ) → i < b → P i r → r ≡ get_or sizes i 0) → o ≡ place sizes n)
+    (sized : (i r : ℕ) → i < b → P i r → r ≡ length (get_or (map f xs) i [])) where
+  is_place : o ≡ place (map (λ x. length (f x)) xs) n
+  is_place = walked (map (λ x. length (f x)) xs) (length-map xs (λ x. length (f x)) ∙ long) (λ i r h p. sized i r h p ∙ sym (length_at f xs i))
 
-  -- an element of the block k
-  pub in_block : (xs : List X) (k left i : ℕ) (d : A) → k < length xs → left < length (get_or (map f xs) k []) → before xs k + left ≡ i →
-      get_or (flat_map f xs) i d ≡ get_or (get_or (map f xs) k []) left d
-  in_block [] k left i d h l e = absurd (omega arith)
-  in_block (x ∷ xs) zero left i d h l e =
-      ap (λ n. get_or (f x ++ flat_map f xs) n d) (omega arith) ∙ get_or_append_left (f x) (flat_map f xs) d left l
-  in_block (x ∷ xs) (suc k) left i d h l e =
-      let n = length-append (f x) (flat_map f (take k xs)) in
-      get_or-append_right (f x) (flat_map f xs) (length (f x)) i d refl (omega arith) ∙ in_block xs k left (i - length (f x)) d (omega arith) l (omega arith)
+  -- the walk found none
+  pub found_none : o ≡ None → None ≡ slice_get (flat_map f xs) n
+  found_none e = sym (get_joined f xs n ∙ ap (option_and_then (in_blocks (map f xs))) (sym is_place ∙ e))
 
-  -- behind the last block
-  pub past_blocks : (xs : List X) (k left i : ℕ) (d : A) → length xs ≤ k → before xs k + left ≡ i → get_or (flat_map f xs) i d ≡ d
-  past_blocks xs k left i d h e = get_or_past (flat_map f xs) i d (omega (arith, before_all xs k h))
+  -- the walk found a block and a place in it
+  module _ (k m : ℕ) (e : o ≡ Some (k, m)) where
+    pub found_within : (k < b) × (m < length (get_or (map f xs) k []))
+    found_within =
+        let w = place_within (map (λ x. length (f x)) xs) n k m (sym e ∙ is_place) in
+        (omega (arith, w.0, length-map xs (λ x. length (f x))), omega (arith, w.1, length_at f xs k))
 
--- the same where the blocks are those of the numbers below n
-module _ {A : Type 0} (f : ℕ → List A) (n : ℕ) where
-  at : (k : ℕ) → k < n → get_or (map f (range_with_len 0 n)) k [] ≡ f k
-  at k h = get_or-map-range_with_len f 0 n k k [] h (omega arith)
+    pub found_there : slice_get (get_or (map f xs) k []) m ≡ slice_get (flat_map f xs) n
+    found_there = sym (get_joined f xs n ∙ ap (option_and_then (in_blocks (map f xs))) (sym is_place ∙ e))
 
-  pub count_before_more : (k : ℕ) → k < n → before f (range_with_len 0 n) (k + 1) ≡ before f (range_with_len 0 n) k + length (f k)
-  count_before_more k h = before_more f (range_with_len 0 n) k (omega (arith, length-range_with_len 0 n)) ∙ ap (λ b. before f (range_with_len 0 n) k + length b) (at k h)
+-- the same where the blocks are those of the numbers below b
+module _ {A : Type 0} (P : ℕ → ℕ → Type 0) (f : ℕ → List A) (b n : ℕ) (o : Option (ℕ × ℕ))
+    (walked : (sizes : List ℕ) → length sizes ≡ b → ((i r : ℕ) → i < b → P i r → r ≡ get_or sizes i 0) → o ≡ place sizes n)
+    (sized : (i r : ℕ) → i < b → P i r → r ≡ length (f i)) where
+  block_is : (k : ℕ) → k < b → get_or (map f (range_with_len 0 b)) k [] ≡ f k
+  block_is k h = get_or-map-range_with_len f 0 b k k [] h (omega arith)
 
-  pub count_before_all : (k : ℕ) → n ≤ k → before f (range_with_len 0 n) k ≡ length (flat_map f (range_with_len 0 n))
-  count_before_all k h = before_all f (range_with_len 0 n) k (omega (arith, length-range_with_len 0 n))
+  block_sized : (i r : ℕ) → i < b → P i r → r ≡ length (get_or (map f (range_with_len 0 b)) i [])
+  block_sized i r h p = sized i r h p ∙ sym (ap length (block_is i h))
 
-  pub count_in_block : (k left i : ℕ) (d : A) → k < n → left < length (f k) → before f (range_with_len 0 n) k + left ≡ i →
-      get_or (flat_map f (range_with_len 0 n)) i d ≡ get_or (f k) left d
-  count_in_block k left i d h l e =
-      in_block f (range_with_len 0 n) k left i d (omega (arith, length-range_with_len 0 n)) (omega (arith, ap length (at k h))) e ∙ ap (λ b. get_or b left d) (at k h)
+  pub none_below : o ≡ None → None ≡ slice_get (flat_map f (range_with_len 0 b)) n
+  none_below = found_none P f (range_with_len 0 b) b n o (length-range_with_len 0 b) walked block_sized
 
-  pub count_within : (k left i : ℕ) → k < n → left < length (f k) → before f (range_with_len 0 n) k + left ≡ i → i < length (flat_map f (range_with_len 0 n))
-  count_within k left i h l e = omega (arith, count_before_more k h, before_most f (range_with_len 0 n) (k + 1))
+  module _ (k m : ℕ) (e : o ≡ Some (k, m)) where
+    pub within_below : (k < b) × (m < length (f k))
+    within_below =
+        let w = found_within P f (range_with_len 0 b) b n o (length-range_with_len 0 b) walked block_sized k m e in
+        (w.0, omega (arith, w.1, ap length (block_is k w.0)))
 
-  pub count_past_blocks : (k left i : ℕ) (d : A) → n ≤ k → before f (range_with_len 0 n) k + left ≡ i → get_or (flat_map f (range_with_len 0 n)) i d ≡ d
-  count_past_blocks k left i d h e = past_blocks f (range_with_len 0 n) k left i d (omega (arith, length-range_with_len 0 n)) e
+    pub there_below : slice_get (f k) m ≡ slice_get (flat_map f (range_with_len 0 b)) n
+    there_below =
+        sym (ap (λ l. slice_get l m) (block_is k within_below.0)) ∙
+        found_there P f (range_with_len 0 b) b n o (length-range_with_len 0 b) walked block_sized k m e

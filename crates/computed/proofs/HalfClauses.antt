@@ -1,18 +1,25 @@
 -- The clauses of a half, by the values of its end.
-use Rattle.std.proofs.Common.{◌≡◌, ℕ, ◌<◌, ◌≤◌, List, [], length, get_or, arith}
-use Rattle.std.proofs.lemmas.List.FromFn.{length-map-range_with_len, get_or-map-range_with_len}
+use Rattle.std.proofs.Common.{◌≡◌, ℕ, ◌<◌, ◌≤◌, List, [], get_or, Some, None, slice_get, ap, ◌∙◌, arith}
+use Rattle.std.proofs.lemmas.List.FromFn.{get_or-map-range_with_len}
 use Rattle.std.proofs.lemmas.List.{get_or_past}
+use Rattle.std.proofs.lemmas.Option.{slice_get-get_or, slice_get_past}
 use Rattle.theory.specs.declared.Side.{Side}
 use Rattle.theory.specs.Encodings.{support_clause, half}
 use Rattle.theory.specs.Network.{Table, near}
 use Rattle.theory.specs.Numbering.{count}
+use Rattle.computed.proofs.Measured.{half_length}
 
-module _ (ks : List ℕ) (s : Side) (t : Table) where
-  pub half_length : length (half ks s t) ≡ count ks (near s t)
-  half_length = length-map-range_with_len (support_clause ks s t) 0 (count ks (near s t))
+module _ (ks : List ℕ) (s : Side) (t : Table) (i : ℕ) where
+  module _ (h : i < count ks (near s t)) where
+    pub half_at : get_or (half ks s t) i [] ≡ support_clause ks s t i
+    half_at = get_or-map-range_with_len (support_clause ks s t) 0 (count ks (near s t)) i i [] h (omega arith)
 
-  pub half_at : (i : ℕ) → i < count ks (near s t) → get_or (half ks s t) i [] ≡ support_clause ks s t i
-  half_at i h = get_or-map-range_with_len (support_clause ks s t) 0 (count ks (near s t)) i i [] h (omega arith)
+    pub half_get : slice_get (half ks s t) i ≡ Some (support_clause ks s t i)
+    half_get = slice_get-get_or (half ks s t) i [] (omega (arith, half_length ks s t)) ∙ ap Some half_at
 
-  pub half_past : (i : ℕ) → count ks (near s t) ≤ i → get_or (half ks s t) i [] ≡ []
-  half_past i h = get_or_past (half ks s t) i [] (omega (arith, half_length))
+  module _ (h : count ks (near s t) ≤ i) where
+    pub half_past : get_or (half ks s t) i [] ≡ []
+    half_past = get_or_past (half ks s t) i [] (omega (arith, half_length ks s t))
+
+    pub half_get_none : slice_get (half ks s t) i ≡ None
+    half_get_none = slice_get_past (half ks s t) i (omega (arith, half_length ks s t))

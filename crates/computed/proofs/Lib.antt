@@ -5,3 +5,4 @@ pub mod AtTable
 pub mod Measured
 pub mod ThreeParts
 pub mod HalfClauses
+pub mod Named

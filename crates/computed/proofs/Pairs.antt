@@ -1,8 +1,9 @@
 -- How many pairs there are among the values of a point.
-use Rattle.std.proofs.Common.{◌≡◌, ℕ, zero, suc, ◌+◌, ◌-◌, ◌*◌, ◌<◌, List, [], length, get_or, refl, ap, ◌∙◌, add-mul, mul-add, arith}
+use Rattle.std.proofs.Common.{◌≡◌, ℕ, zero, suc, ◌+◌, ◌-◌, ◌*◌, ◌<◌, ◌≤◌, List, [], length, Some, slice_get, refl, ap, ◌∙◌, mul-le-mul_right, add-mul, mul-add, arith}
 use Rattle.std.specs.List.{range_with_len, flat_map}
 use Rattle.std.proofs.lemmas.List.FromFn.{length-map-range_with_len, get_or-map-range_with_len}
 use Rattle.std.proofs.lemmas.List.{length-append}
+use Rattle.std.proofs.lemmas.Option.{slice_get-get_or}
 use Rattle.theory.specs.Encodings.{not_both, not_with_later, not_two}
 use Rattle.theory.specs.Numbering.{count}
 
@@ -32,6 +33,11 @@ module _ (ks : List ℕ) (p : ℕ) where
   pub twice_not_two : 2 * length (not_two ks p) + count ks p ≡ count ks p * count ks p
   twice_not_two = ap (λ n. 2 * n + count ks p) length_not_two ∙ pairs_square (count ks p)
 
+  pub few_not_two : count ks p ≤ 16 → length (not_two ks p) ≤ 120
+  few_not_two few = omega (arith, twice_not_two, mul-le-mul_right (count ks p) few)
+
   -- a value with one of those behind it
-  pub later_at : (i left : ℕ) → left < count ks p - (i + 1) → get_or (not_with_later ks p i) left [] ≡ not_both ks p i p (i + 1 + left)
-  later_at i left h = get_or-map-range_with_len (not_both ks p i p) (i + 1) (count ks p - (i + 1)) left (i + 1 + left) [] h refl
+  pub later_get : (i left : ℕ) → left < count ks p - (i + 1) → slice_get (not_with_later ks p i) left ≡ Some (not_both ks p i p (i + 1 + left))
+  later_get i left h =
+      slice_get-get_or (not_with_later ks p i) left [] (omega (arith, length_later i)) ∙
+      ap Some (get_or-map-range_with_len (not_both ks p i p) (i + 1) (count ks p - (i + 1)) left (i + 1 + left) [] h refl)

@@ -1,11 +1,13 @@
-ghost use Rattle.std.specs.Prelude.{◌≡◌};
+ghost use Rattle.std.specs.Prelude.{◌≡◌, slice_get};
+ghost use Rattle.std.specs.Option.{option_map};
 ghost use Rattle.theory.specs.Encodings.{clauses};
 ghost use Rattle.network.specs.Contents.{meaning};
-ghost use Rattle.computed.specs.Ids.{NamesIn};
+ghost use Rattle.network.specs.Points.{counts_of};
+ghost use Rattle.computed.specs.Ids.{clause_of};
 ghost use Rattle.computed.specs.Sizes.{Sized};
 
 use crate::id::ClauseId;
-use crate::{id, point_pairs, sizes, tables};
+use crate::{point_pairs, sizes, tables};
 use books::{ClauseBook, FaithfulBook};
 use network::{MAX_TABLES, Network};
 use theory::Encoding;
@@ -15,7 +17,7 @@ use theory::Encoding;
 pub struct ComputedBook<'a> {
     network: &'a Network,
     encoding: Encoding,
-    // how many clauses each table has
+    // how many clauses each table has; an array, since a book is made with no memory from the heap and cannot fail
     sizes: [u16; MAX_TABLES],
     ghost sized: { Sized encoding (meaning network.now) sizes },
 }
@@ -35,13 +37,13 @@ impl<'a> ComputedBook<'a> {
     }
 
     // Which clause stands at the place i.
-    fn locate(&self, i: usize) -> ClauseId
-        ensures { NamesIn (meaning self.now.network.now) (clauses self.now.encoding (meaning self.now.network.now)) i result }
+    fn locate(&self, i: usize) -> Option<ClauseId<'a>>
+        ensures { option_map (clause_of (counts_of self.now.network.now.points)) result ≡ slice_get (clauses self.now.encoding (meaning self.now.network.now)) i }
     {
         let points = self.network.points();
         let some = points.len();
         if i < some {
-            return ClauseId::SomeOf(i);
+            return Some(ClauseId::SomeOf(i));
         }
         let pairs = point_pairs::at_most_one_count(points);
         if i - some < pairs {
@@ -57,15 +59,17 @@ impl<'a> ClauseBook for ComputedBook<'a> {
     fn count(&self) -> usize {
         let points = self.network.points();
         let tables = self.network.tables().len();
-        points.len() + point_pairs::at_most_one_count(points) + sizes::total(&self.sizes[0..tables])
+        points.len() + point_pairs::at_most_one_count(points) + sizes::total(&self.sizes[..tables])
     }
 
     fn length(&self, i: usize) -> usize {
-        id::length(self.network, self.locate(i))
+        let points = self.network.points();
+        self.locate(i).map_or(0, |clause| clause.length(points))
     }
 
     fn literal(&self, i: usize, j: usize) -> u32 {
-        id::literal(self.network, self.locate(i), j)
+        let points = self.network.points();
+        self.locate(i).map_or(0, |clause| clause.literal(points, j))
     }
 }
 

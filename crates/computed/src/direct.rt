@@ -1,60 +1,68 @@
-ghost use Rattle.std.specs.Prelude.{◌≡◌, ◌*◌, ◌<◌, ◌≤◌, length};
+ghost use Rattle.std.specs.Prelude.{◌≡◌, ℕ, ◌*◌, ◌<◌, ◌≤◌, not, length, filter, IfSome, slice_get};
+ghost use Rattle.std.specs.Option.{option_map};
 ghost use Rattle.theory.specs.Encodings.{barred_with, direct_clauses};
+ghost use Rattle.theory.specs.Network.{allows};
+ghost use Rattle.theory.specs.Numbering.{values};
 ghost use Rattle.network.specs.Bounds.{most_values};
 ghost use Rattle.network.specs.Points.{counts_of};
 ghost use Rattle.network.specs.Tables.{table_of};
-ghost use Rattle.computed.specs.Ids.{Names};
+ghost use Rattle.computed.specs.Ids.{clause_of};
 
 use crate::id::ClauseId;
-use crate::row;
-use encodings::{clause, halves};
-use network::{PointList, Table};
-use theory::Side;
+use crate::table_clauses::TableClauses;
+use network::blocks;
+use partners::literal;
 
-// How many values of the higher point the table does not allow beside the lower point's value i.
-fn barred_count(points: &PointList, table: &Table, i: usize) -> usize
-    ensures value { result ≡ length (barred_with (counts_of points.now) (table_of table.now) i) }
-    ensures bound { result ≤ most_values }
-{
-    points.count(table.high()) - halves::partners(points, table, Side::Lower, i)
-}
-
-// How many direct clauses the table has.
-pub(crate) fn direct_count(points: &PointList, table: &Table) -> usize
-    ensures value { result ≡ length (direct_clauses (counts_of points.now) (table_of table.now)) }
-    ensures bound { result ≤ most_values * most_values }
-{
-    let mut sum = 0;
-    for i in 0..points.count(table.low()) {
-        sum += barred_count(points, table, i);
+impl<'a> TableClauses<'a> {
+    // How many values of the higher point the table does not allow beside the lower point's value i.
+    fn barred_count(&self, i: usize) -> usize
+        ensures value { result ≡ length (barred_with (counts_of self.now.points.now) (table_of self.now.table.now) i) }
+        ensures bound { result ≤ most_values }
+    {
+        // the test of `End` turned round: with a closure for the test the clause could not name it
+        (0..self.points.count(self.table.high()))
+            .filter(|j| !self.table.allows(i, *j))
+            .count()
     }
-    sum
-}
 
-// Clause n of those that bar the lower point's value i with a value of the higher point.
-fn barred(points: &PointList, table: &Table, i: usize, n: usize) -> ClauseId
-    requires { i < most_values }
-    ensures { Names (barred_with (counts_of points.now) (table_of table.now) i) n result }
-{
-    let low = points.offset(table.low());
-    let high = points.offset(table.high());
-    match row::in_row(points, table, Side::Lower, i, false, n) {
-        Some(j) => ClauseId::Two(clause::is_out(low + i), clause::is_out(high + j)),
-        None => ClauseId::Missing,
+    // How many direct clauses the table has.
+    pub fn direct_count(&self) -> usize
+        ensures value { result ≡ length (direct_clauses (counts_of self.now.points.now) (table_of self.now.table.now)) }
+        ensures bound { result ≤ most_values * most_values }
+    {
+        (0..self.points.count(self.table.low()))
+            .map(|i| self.barred_count(i))
+            .sum()
     }
-}
 
-// Direct clause n of the table.
-pub(crate) fn direct(points: &PointList, table: &Table, n: usize) -> ClauseId
-    ensures { Names (direct_clauses (counts_of points.now) (table_of table.now)) n result }
-{
-    let mut left = n;
-    for i in 0..points.count(table.low()) {
-        let size = barred_count(points, table, i);
-        if left < size {
-            return barred(points, table, i, left);
-        }
-        left -= size;
+    // Value n of the values of the higher point that the table does not allow beside the lower point's value i.
+    fn barred_value(&self, i: usize, n: usize) -> Option<usize>
+        ensures value { result ≡ slice_get (filter (λ j. not (allows (table_of self.now.table.now) i j)) (values (counts_of self.now.points.now) self.now.table.now.high)) n }
+        ensures bound { IfSome result (λ j. j < most_values) }
+    {
+        // the test of `End` turned round: with a closure for the test the clause could not name it
+        (0..self.points.count(self.table.high()))
+            .filter(|value| !self.table.allows(i, *value))
+            .nth(n)
     }
-    ClauseId::Missing
+
+    // Clause n of those that bar the lower point's value i with a value of the higher point.
+    fn barred(&self, i: usize, n: usize) -> Option<ClauseId<'a>>
+        requires { i < most_values }
+        ensures { option_map (clause_of (counts_of self.now.points.now)) result ≡ slice_get (barred_with (counts_of self.now.points.now) (table_of self.now.table.now) i) n }
+    {
+        let j = self.barred_value(i, n)?;
+        let low = self.points.offset(self.table.low()) + i;
+        let high = self.points.offset(self.table.high()) + j;
+        Some(ClauseId::Two(literal::is_out(low), literal::is_out(high)))
+    }
+
+    // Direct clause n of the table.
+    pub fn direct(&self, n: usize) -> Option<ClauseId<'a>>
+        ensures { option_map (clause_of (counts_of self.now.points.now)) result ≡ slice_get (direct_clauses (counts_of self.now.points.now) (table_of self.now.table.now)) n }
+    {
+        let values = self.points.count(self.table.low());
+        let (i, left) = blocks::locate(values, |i| self.barred_count(i), n)?;
+        self.barred(i, left)
+    }
 }

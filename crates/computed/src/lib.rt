@@ -6,10 +6,9 @@ mod direct;
 mod half;
 mod id;
 mod point_pairs;
-mod row;
 mod scores;
 mod sizes;
-mod support;
+mod table_clauses;
 mod tables;
 
 pub use book::ComputedBook;

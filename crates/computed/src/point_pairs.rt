@@ -1,12 +1,13 @@
-ghost use Rattle.std.specs.Prelude.{◌≡◌, ◌*◌, ◌≤◌, length};
+ghost use Rattle.std.specs.Prelude.{◌≡◌, ◌*◌, ◌≤◌, length, slice_get};
+ghost use Rattle.std.specs.Option.{option_map};
 ghost use Rattle.theory.specs.Encodings.{not_two, at_most_one};
 ghost use Rattle.network.specs.Bounds.{most_points};
 ghost use Rattle.network.specs.Points.{counts_of};
-ghost use Rattle.computed.specs.Ids.{Names};
+ghost use Rattle.computed.specs.Ids.{clause_of};
 
 use crate::id::ClauseId;
-use encodings::clause;
-use network::PointList;
+use network::{PointList, blocks};
+use partners::literal;
 
 // How many pairs of values the point has, each with a clause that not both are in.
 fn not_two_count(points: &PointList, p: usize) -> usize
@@ -22,42 +23,24 @@ pub(crate) fn at_most_one_count(points: &PointList) -> usize
     ensures value { result ≡ length (at_most_one (counts_of points.now)) }
     ensures bound { result ≤ 120 * most_points }
 {
-    let mut sum = 0;
-    for p in 0..points.len() {
-        sum += not_two_count(points, p);
-    }
-    sum
+    (0..points.len()).map(|p| not_two_count(points, p)).sum()
 }
 
 // Clause n of those that no two values of the point are in.
-fn not_two(points: &PointList, p: usize, n: usize) -> ClauseId
-    ensures { Names (not_two (counts_of points.now) p) n result }
+fn not_two<'a>(points: &'a PointList, p: usize, n: usize) -> Option<ClauseId<'a>>
+    ensures { option_map (clause_of (counts_of points.now)) result ≡ slice_get (not_two (counts_of points.now) p) n }
 {
-    let first = points.offset(p);
     let count = points.count(p);
-    let mut left = n;
-    for i in 0..count {
-        let size = count - (i + 1);
-        if left < size {
-            let other = first + i + 1 + left;
-            return ClauseId::Two(clause::is_out(first + i), clause::is_out(other));
-        }
-        left -= size;
-    }
-    ClauseId::Missing
+    let (i, left) = blocks::locate(count, |i| count - (i + 1), n)?;
+    let value = points.offset(p) + i;
+    let other = value + 1 + left;
+    Some(ClauseId::Two(literal::is_out(value), literal::is_out(other)))
 }
 
 // At-most-one clause n.
-pub(crate) fn at_most_one(points: &PointList, n: usize) -> ClauseId
-    ensures { Names (at_most_one (counts_of points.now)) n result }
+pub(crate) fn at_most_one<'a>(points: &'a PointList, n: usize) -> Option<ClauseId<'a>>
+    ensures { option_map (clause_of (counts_of points.now)) result ≡ slice_get (at_most_one (counts_of points.now)) n }
 {
-    let mut left = n;
-    for p in 0..points.len() {
-        let size = not_two_count(points, p);
-        if left < size {
-            return not_two(points, p, left);
-        }
-        left -= size;
-    }
-    ClauseId::Missing
+    let (p, left) = blocks::locate(points.len(), |p| not_two_count(points, p), n)?;
+    not_two(points, p, left)
 }

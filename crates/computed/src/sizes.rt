@@ -5,22 +5,24 @@ ghost use Rattle.network.specs.Points.{counts_of};
 ghost use Rattle.network.specs.Tables.{table_of};
 ghost use Rattle.computed.specs.Sizes.{size_of, Sized};
 
-use crate::direct;
-use encodings::halves;
-use network::{MAX_TABLES, Network, PointList, Table};
+use crate::table_clauses::TableClauses;
+use books::ClauseBook;
+use network::{MAX_TABLES, Network};
 use theory::Encoding;
 
-// How many clauses an encoding has for a table.
-fn size(points: &PointList, table: &Table, encoding: Encoding) -> usize
-    ensures value { result ≡ size_of encoding (counts_of points.now) (table_of table.now) }
-    ensures bound { result ≤ most_values * most_values }
-{
-    match encoding {
-        Encoding::Direct => direct::direct_count(points, table),
-        Encoding::Support => points.count(table.low()) + points.count(table.high()),
-        Encoding::MinimalSupport => {
-            let side = halves::better_side(points, table);
-            points.count(halves::near_point(table, side))
+impl<'a> TableClauses<'a> {
+    // How many clauses an encoding has for the table.
+    fn size(&self, encoding: Encoding) -> usize
+        ensures value { result ≡ size_of encoding (counts_of self.now.points.now) (table_of self.now.table.now) }
+        ensures bound { result ≤ most_values * most_values }
+    {
+        // a match: there are just these encodings, and a table of functions would hide which
+        match encoding {
+            Encoding::Direct => self.direct_count(),
+            Encoding::Support => {
+                self.points.count(self.table.low()) + self.points.count(self.table.high())
+            }
+            Encoding::MinimalSupport => self.better_half().count(),
         }
     }
 }
@@ -31,8 +33,9 @@ pub(crate) fn sizes(network: &Network, encoding: Encoding) -> [u16; MAX_TABLES]
 {
     let points = network.points();
     let mut sizes = [0u16; MAX_TABLES];
+    // by number: the array has a place for each table that there may be
     for (k, table) in network.tables().iter().enumerate() {
-        sizes[k] = size(points, table, encoding) as u16;
+        sizes[k] = TableClauses { points, table }.size(encoding) as u16;
     }
     sizes
 }
@@ -43,9 +46,5 @@ pub(crate) fn total(sizes: &[u16]) -> usize
     ensures value { result ≡ sum sizes.now }
     ensures bound { result ≤ 65535 * most_tables }
 {
-    let mut sum = 0;
-    for size in sizes {
-        sum += *size as usize;
-    }
-    sum
+    sizes.iter().map(|size| *size as usize).sum()
 }

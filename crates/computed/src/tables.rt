@@ -1,67 +1,61 @@
+ghost use Rattle.std.specs.Prelude.{◌≡◌, slice_get};
+ghost use Rattle.std.specs.Option.{option_map};
 ghost use Rattle.theory.specs.declared.Encoding.TheVariants.{Support};
-ghost use Rattle.theory.specs.Encodings.{half, table_clauses};
+ghost use Rattle.theory.specs.Encodings.{table_clauses};
 ghost use Rattle.network.specs.Contents.{meaning};
 ghost use Rattle.network.specs.Points.{counts_of};
 ghost use Rattle.network.specs.Tables.{table_of};
-ghost use Rattle.computed.specs.Ids.{NamesIn, NamesAt};
+ghost use Rattle.computed.specs.Ids.{clause_of};
 ghost use Rattle.computed.specs.Sizes.{of_tables, Sized};
 
-use crate::direct;
 use crate::id::ClauseId;
-use encodings::halves;
-use network::{Network, PointList, Table};
+use crate::table_clauses::TableClauses;
+use books::ClauseBook;
+use network::{Network, blocks};
 use theory::{Encoding, Side};
 
-// Clause n of a half of the table, which is the table k.
-fn of_half(points: &PointList, table: &Table, side: Side, k: usize, n: usize) -> ClauseId
-    ensures { NamesAt (λ ks. half ks side) (counts_of points.now) (table_of table.now) k n result }
-{
-    if n < points.count(halves::near_point(table, side)) {
-        ClauseId::Support(side, k, n as u8)
-    } else {
-        ClauseId::Missing
+impl<'a> TableClauses<'a> {
+    // Clause n of both halves of the table.
+    fn of_halves(&self, n: usize) -> Option<ClauseId<'a>>
+        ensures { option_map (clause_of (counts_of self.now.points.now)) result ≡ slice_get (table_clauses Support (counts_of self.now.points.now) (table_of self.now.table.now)) n }
+    {
+        let lower = self.half(Side::Lower);
+        let first = lower.count();
+        if n < first {
+            lower.clause(n)
+        } else {
+            self.half(Side::Higher).clause(n - first)
+        }
     }
-}
 
-// Clause n of both halves of the table, which is the table k.
-fn of_halves(points: &PointList, table: &Table, k: usize, n: usize) -> ClauseId
-    ensures { NamesAt (table_clauses Support) (counts_of points.now) (table_of table.now) k n result }
-{
-    let lower = points.count(table.low());
-    if n < lower {
-        of_half(points, table, Side::Lower, k, n)
-    } else {
-        of_half(points, table, Side::Higher, k, n - lower)
-    }
-}
-
-// Clause n of the table, which is the table k.
-fn of_table(points: &PointList, table: &Table, encoding: Encoding, k: usize, n: usize) -> ClauseId
-    ensures { NamesAt (table_clauses encoding) (counts_of points.now) (table_of table.now) k n result }
-{
-    match encoding {
-        Encoding::Direct => direct::direct(points, table, n),
-        Encoding::Support => of_halves(points, table, k, n),
-        Encoding::MinimalSupport => {
-            let side = halves::better_side(points, table);
-            of_half(points, table, side, k, n)
+    // Clause n of the table.
+    fn clause(&self, encoding: Encoding, n: usize) -> Option<ClauseId<'a>>
+        ensures { option_map (clause_of (counts_of self.now.points.now)) result ≡ slice_get (table_clauses encoding (counts_of self.now.points.now) (table_of self.now.table.now)) n }
+    {
+        // a match: there are just these encodings, and a table of functions would hide which
+        match encoding {
+            Encoding::Direct => self.direct(n),
+            Encoding::Support => self.of_halves(n),
+            Encoding::MinimalSupport => self.better_half().clause(n),
         }
     }
 }
 
 // Clause n of the tables, by how many clauses each has.
-pub(crate) fn clause(network: &Network, encoding: Encoding, sizes: &[u16], n: usize) -> ClauseId
+pub(crate) fn clause<'a>(
+    network: &'a Network,
+    encoding: Encoding,
+    sizes: &[u16],
+    n: usize,
+) -> Option<ClauseId<'a>>
     requires { Sized encoding (meaning network.now) sizes.now }
-    ensures { NamesIn (meaning network.now) (of_tables encoding (meaning network.now)) n result }
+    ensures { option_map (clause_of (counts_of network.now.points)) result ≡ slice_get (of_tables encoding (meaning network.now)) n }
 {
-    let points = network.points();
-    let mut left = n;
-    for (k, table) in network.tables().iter().enumerate() {
-        let size = sizes[k] as usize;
-        if left < size {
-            return of_table(points, table, encoding, k, left);
-        }
-        left -= size;
-    }
-    ClauseId::Missing
+    let tables = network.tables();
+    let (k, left) = blocks::locate(tables.len(), |k| sizes[k] as usize, n)?;
+    let table = TableClauses {
+        points: network.points(),
+        table: &tables[k],
+    };
+    table.clause(encoding, left)
 }

@@ -7,7 +7,7 @@ use page::PageRefusal;
 use std::alloc::AllocError;
 
 // Why there is no page.
-#[derive(Clone, Copy)]
+#[derive(Clone, Copy, Debug, PartialEq, Eq)]
 pub enum MapError {
     // the file is refused
     Refused(Fault),
@@ -22,6 +22,7 @@ impl MapError {
     pub fn number(&self) -> u8
         ensures { result ≡ number_of self.now }
     {
+        // a match and no discriminants: a variant holds a value
         match self {
             MapError::Refused(fault) => fault.refusal.number(),
             MapError::TooShort => 21,
@@ -49,6 +50,7 @@ impl From<PageRefusal> for MapError {
     }
 }
 
+// By hand, as for each error type: a derived conversion has no contract that names the variant.
 impl From<AllocError> for MapError {
     ghost from_gives = { λ _ r. r ≡ out_of_memory };
 

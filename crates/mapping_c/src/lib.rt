@@ -13,5 +13,6 @@ use std::alloc::Global;
 pub extern "C" fn hazhgiti_map(heap: Global, file: &[u8], page: &mut [u8]) -> i64
     ensures { (q : Result ℕ MapError) × Maps (read_file file.now) page.old page.new q × (result ≡ answer_of q) }
 {
+    // one number for a length or a refusal, as a program in C reads it
     mapping::hazhgiti_map(heap, file, page)
 }

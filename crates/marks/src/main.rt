@@ -1,7 +1,7 @@
 // Reads a network file from standard input, opens it over its support clauses, and writes its page.
 #![tactic(auto)]
 
-use anyhow::anyhow;
+use anyhow::{Result, bail};
 use commands::text;
 use mapping::MapError;
 use std::io::{Read, Write};
@@ -9,21 +9,22 @@ use std::io::{Read, Write};
 // The most bytes that a page can have: 48 lines of a label, a space, 16 signs and a line feed.
 const MOST_BYTES: usize = 48 * (8 + 1 + 16 + 1);
 
-fn run(rt: &HostRuntime) -> anyhow::Result<()> {
+fn run(rt: &HostRuntime) -> Result<()> {
     let mut file = Vec::new(rt.alloc());
     let _ = rt.stdin().read_to_end(&mut file)?;
+    // an array, since the size of a page is bounded
     let mut page = [0u8; MOST_BYTES];
     match mapping::write_map(rt.alloc(), &file, &mut page) {
-        Ok(length) => rt.stdout().write_all(&page[0..length.min(MOST_BYTES)])?,
+        Ok(length) => rt.stdout().write_all(&page[..length])?,
         Err(MapError::Refused(fault)) => {
             rt.println(text::refused(rt.alloc(), fault.refusal.number(), fault.place)?)?;
         }
-        Err(MapError::TooShort) => return Err(anyhow!("the page is too long")),
-        Err(MapError::OutOfMemory) => return Err(anyhow!("out of memory")),
+        Err(MapError::TooShort) => bail!("the page is too long"),
+        Err(MapError::OutOfMemory) => bail!("out of memory"),
     }
     Ok(())
 }
 
-fn main(rt: HostRuntime) -> anyhow::Result<()> {
+fn main(rt: HostRuntime) -> Result<()> {
     run(&rt)
 }

@@ -1,19 +1,13 @@
 -- The byte and the record layer at a place of a file.
-use Rattle.std.proofs.Common.{◌≡◌, ℕ, ◌+◌, ◌-◌, ◌*◌, ◌<◌, ◌≤◌, Bool, true, false, ltb, List, length, get_or, take, drop, Some, None, Ok, Err, Decides, Result, sym, refl, ap, ◌∙◌, ⊎_elim, arith}
-use Rattle.std.proofs.lemmas.List.{at_drop_more, at_drop_all, length-drop}
+use Rattle.std.proofs.Common.{◌≡◌, ℕ, ◌+◌, ◌-◌, ◌<◌, ◌≤◌, Bool, false, ltb, List, length, get_or, take, drop, Some, None, Ok, Err, Decides, Result, sym, ap, ◌∙◌, ⊎_elim, arith}
+use Rattle.std.proofs.lemmas.List.{at_drop_more, length-drop}
 use Rattle.std.proofs.lemmas.Bool.{cond-true, cond-false, lt-ltb, le-ltb, cases_Bool}
-use Rattle.network.specs.declared.refusal.Refusal.{Refusal}
-use Rattle.network.specs.declared.refusal.Refusal.TheVariants.{Truncated, UnknownKind, BadHead, BadPoint, BadTable}
+use Rattle.network.specs.declared.refusal.Refusal.TheVariants.{Truncated, UnknownKind}
 use Rattle.netfile.specs.declared.fault.ByteFault.{ByteFault}
 use Rattle.netfile.specs.declared.record.Kind.{Kind}
-use Rattle.netfile.specs.declared.record.Kind.TheVariants.{Head, Point, Table, Pair, End}
 use Rattle.netfile.specs.Bytes.{Raw, kind_of, body_length, body_of, raw_at}
-use Rattle.netfile.specs.Records.{Item, head, point, table, pair, end, kind_of_item, head_fits, point_fits, table_fits, in_order, checked}
 
 module _ (bs : List ℕ) (p : ℕ) where
-  pub raw_past : length bs ≤ p → Err (record { refusal = Truncated; place = p }) ≡ raw_at p (drop p bs)
-  raw_past h = sym (at_drop_all (raw_at p) bs p h)
-
   -- a record begins with the byte at its place
   raw_at_lem : p < length bs → raw_at p (drop p bs) ≡ body_of p (kind_of (get_or bs p 0)) (drop (p + 1) bs)
   raw_at_lem h = at_drop_more (raw_at p) bs p 0 h
@@ -46,16 +40,3 @@ module _ (bs : List ℕ) (p : ℕ) where
 -- a test that decides something false fails
 pub fails : {P : Type 0} (b : Bool) → Decides b P → (P → ⊥) → b ≡ false
 fails b d f = ⊎_elim (λ t. absurd (f (d.0 t))) (λ t. t) (cases_Bool b)
-
-in_order_kind : (k : Kind) (place : ℕ) (fits : Bool) (x : Refusal) (i j : Item) → kind_of_item i ≡ k → Ok j ≡ in_order place fits x i → kind_of_item j ≡ k
-in_order_kind k place true x i j e h = let same : j ≡ i = cc in ap kind_of_item same ∙ e
-in_order_kind k place false x i j e h = let z : kind_of_item j ≡ k = cc in z
-
--- a record's item is of its kind
-pub checked_kind : (place : ℕ) (k : Kind) (body : List ℕ) (x : Item) → Ok x ≡ checked place k body → kind_of_item x ≡ k
-checked_kind place Head body x h = in_order_kind Head place (head_fits body) BadHead (head (get_or body 1 0) (get_or body 2 0)) x refl h
-checked_kind place Point body x h =
-    in_order_kind Point place (point_fits body) BadPoint (point (record { values = get_or body 0 0; label = drop 1 body })) x refl h
-checked_kind place Table body x h = in_order_kind Table place (table_fits body) BadTable (table (get_or body 0 0) (get_or body 1 0)) x refl h
-checked_kind place Pair body x h = let same : x ≡ pair (get_or body 0 0) (get_or body 1 0) = cc in ap kind_of_item same
-checked_kind place End body x h = let same : x ≡ end (256 * get_or body 0 0 + get_or body 1 0) = cc in ap kind_of_item same

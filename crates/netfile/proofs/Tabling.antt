@@ -1,10 +1,7 @@
 -- The last table of a draft.
-use Rattle.std.proofs.Common.{◌≡◌, ℕ, ◌-◌, ◌<◌, ◌≤◌, List, [], ◌∷◌, ◌++◌, length, get_or, set, sym, ap, ◌∙◌, arith}
-use Rattle.std.proofs.lemmas.List.{length-map, get_or-map, get_or_past, map-set, map_push, set_past}
-use Rattle.theory.specs.Network.{Table as TableMeaning}
-use Rattle.network.specs.declared.point.Point.{Point}
+use Rattle.std.proofs.Common.{◌≡◌, ℕ, ◌-◌, ◌<◌, List, length, get_or, set, sym, ap, ◌∙◌, arith}
+use Rattle.std.proofs.lemmas.List.{length-map, get_or-map, map-set}
 use Rattle.network.specs.declared.table.Table.{Table}
-use Rattle.network.specs.Points.{entries, entry_of}
 use Rattle.network.specs.Tables.{table_of, tables_of, with_allowed}
 use Rattle.netfile.specs.Reading.{empty_table, last_of, allow_last}
 
@@ -15,18 +12,6 @@ last_is ts t h e =
     ap table_of e ∙ sym (get_or-map table_of ts (length ts - 1) t (empty_table 0 0) (omega arith)) ∙
     ap (λ n. get_or (tables_of ts) (n - 1) (empty_table 0 0)) (sym (length-map ts table_of))
 
-pub last_none : (ts : List Table) → length ts ≤ 0 → empty_table 0 0 ≡ get_or (tables_of ts) (length (tables_of ts) - 1) (empty_table 0 0)
-last_none ts h = sym (get_or_past (tables_of ts) (length (tables_of ts) - 1) (empty_table 0 0) (omega (arith, length-map ts table_of)))
-
-pub length_tables : (ts : List Table) → length (tables_of ts) ≡ length ts
-length_tables ts = length-map ts table_of
-
-pub entries_push : (ps qs : List Point) (p : Point) → qs ≡ ps ++ p ∷ [] → entries qs ≡ entries ps ++ entry_of p ∷ []
-entries_push ps qs p e = ap entries e ∙ map_push entry_of ps p
-
-pub tables_push : (ts us : List Table) (t : Table) (m : TableMeaning) → us ≡ ts ++ t ∷ [] → table_of t ≡ m → tables_of us ≡ tables_of ts ++ m ∷ []
-tables_push ts us t m e f = ap tables_of e ∙ map_push table_of ts t ∙ ap (λ x. tables_of ts ++ x ∷ []) f
-
 -- a write at the last place is a write of the last table
 pub tables_allow :
     (ts us : List Table) (t u : Table) (i j n : ℕ) → 0 < n → n ≡ length ts → t ≡ get_or ts (n - 1) t → us ≡ set ts (n - 1) u →
@@ -36,6 +21,3 @@ tables_allow ts us t u i j n h l e f g =
     ap tables_of f ∙ map-set table_of ts (n - 1) u ∙
     ap (λ m. set (tables_of ts) (m - 1) (table_of u)) (l ∙ sym (length-map ts table_of)) ∙
     ap (set (tables_of ts) (length (tables_of ts) - 1)) (g ∙ ap (λ m. with_allowed m i j) last)
-
-pub allow_none : (ts : List Table) (i j : ℕ) → length ts ≡ 0 → tables_of ts ≡ allow_last (tables_of ts) i j
-allow_none ts i j h = sym (set_past (tables_of ts) (length (tables_of ts) - 1) (with_allowed (last_of (tables_of ts)) i j) (omega (arith, length-map ts table_of)))

@@ -1,5 +1,6 @@
 -- The byte layer: a record is one byte of kind and a body whose length the kind fixes.
 use Rattle.std.specs.Prelude.{ℕ, ◌+◌, cond, List, [], ◌∷◌, length, take, Some, None, Ok, Err, Option, Result, ◌==◌, nat_lt}
+use Rattle.network.specs.declared.refusal.Refusal.{Refusal}
 use Rattle.network.specs.declared.refusal.Refusal.TheVariants.{Truncated, UnknownKind}
 use Rattle.netfile.specs.declared.fault.ByteFault.{ByteFault}
 use Rattle.netfile.specs.declared.record.Kind.{Kind}
@@ -29,6 +30,11 @@ kind_of b =
     (cond (b == 3) (Some Table)
     (cond (b == 4) (Some Pair)
     (cond (b == 5) (Some End) None))))
+
+-- a kind that is known, or the refusal of one that is not
+abbrev pub known_kind : Option Kind → Result Kind Refusal
+known_kind (Some k) = Ok k
+known_kind None = Err UnknownKind
 
 -- a whole record: its kind and its body
 pub record Raw : Type 0 where

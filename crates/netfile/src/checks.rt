@@ -4,7 +4,7 @@ ghost use Rattle.netfile.specs.Bytes.{body_length};
 ghost use Rattle.netfile.specs.Records.{item_of, checked};
 ghost use Rattle.netfile.specs.Answers.{map_ok};
 
-use crate::fault::{Layer, RecordFault};
+use crate::fault::RecordFault;
 use crate::record::{Kind, Record};
 use network::{LABEL_BYTES, MAX_POINTS, MAX_TABLES, Point, Refusal};
 
@@ -19,11 +19,7 @@ fn head(place: usize, body: &[u8]) -> Result<Record, RecordFault>
     if version == 1 && points >= 1 && points <= MAX_POINTS && tables <= MAX_TABLES {
         return Ok(Record::Head { points, tables });
     }
-    Err(RecordFault {
-        refusal: Refusal::BadHead,
-        layer: Layer::Record,
-        place,
-    })
+    Err(RecordFault::of_record(place, Refusal::BadHead))
 }
 
 // The label in the body of a point.
@@ -43,11 +39,7 @@ fn point(place: usize, body: &[u8]) -> Result<Record, RecordFault>
 {
     match Point::new(body[0], label(body)) {
         Some(point) => Ok(Record::Point(point)),
-        None => Err(RecordFault {
-            refusal: Refusal::BadPoint,
-            layer: Layer::Record,
-            place,
-        }),
+        None => Err(RecordFault::of_record(place, Refusal::BadPoint)),
     }
 }
 
@@ -61,11 +53,7 @@ fn table(place: usize, body: &[u8]) -> Result<Record, RecordFault>
     if low < high {
         return Ok(Record::Table { low, high });
     }
-    Err(RecordFault {
-        refusal: Refusal::BadTable,
-        layer: Layer::Record,
-        place,
-    })
+    Err(RecordFault::of_record(place, Refusal::BadTable))
 }
 
 // The record layer: what a whole record says, or what is wrong with it.
@@ -73,6 +61,7 @@ pub(crate) fn check(place: usize, kind: Kind, body: &[u8]) -> Result<Record, Rec
     requires { length body.now ≡ body_length kind }
     ensures { map_ok item_of result ≡ checked place kind body.now }
 {
+    // a match: there are just these kinds, and a table of functions would hide which
     match kind {
         Kind::Head => head(place, body),
         Kind::Point => point(place, body),
@@ -82,7 +71,7 @@ pub(crate) fn check(place: usize, kind: Kind, body: &[u8]) -> Result<Record, Rec
             high: body[1] as usize,
         }),
         Kind::End => Ok(Record::End {
-            pairs: 256 * body[0] as usize + body[1] as usize,
+            pairs: u16::from_be_bytes([body[0], body[1]]) as usize,
         }),
     }
 }

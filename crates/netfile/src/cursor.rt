@@ -13,6 +13,7 @@ use network::Refusal;
 pub struct Cursor<'a> {
     file: &'a [u8],
     position: usize,
+    ghost within: { position ≤ length file.now },
 }
 
 // A whole record: its kind, and as many bytes as the kind asks for.
@@ -20,39 +21,6 @@ pub struct Cursor<'a> {
 pub struct Whole<'a> {
     kind: Kind,
     body: &'a [u8],
-}
-
-// The byte layer: the whole record that begins at a place.
-fn whole_at<'a>(file: &'a [u8], place: usize) -> Result<Whole<'a>, ByteFault>
-    requires { place ≤ length file.now }
-    ensures answer { map_ok raw_of result ≡ raw_at place (drop place file.now) }
-    ensures size { IfOk result (λ w. length w.body.now ≡ body_length w.kind) }
-    ensures within { IfOk result (λ w. place + 1 + length w.body.now ≤ length file.now) }
-{
-    if place >= file.len() {
-        return Err(ByteFault {
-            refusal: Refusal::Truncated,
-            place,
-        });
-    }
-    let Some(kind) = Kind::of(file[place]) else {
-        return Err(ByteFault {
-            refusal: Refusal::UnknownKind,
-            place,
-        });
-    };
-    let from = place + 1;
-    if file.len() - from < kind.body_length() {
-        return Err(ByteFault {
-            refusal: Refusal::Truncated,
-            place: file.len(),
-        });
-    }
-    let to = from + kind.body_length();
-    Ok(Whole {
-        kind,
-        body: &file[from..to],
-    })
 }
 
 impl<'a> Cursor<'a> {
@@ -71,6 +39,29 @@ impl<'a> Cursor<'a> {
         self.position
     }
 
+    // The byte layer: the whole record that begins here.
+    fn whole(&self) -> Result<Whole<'a>, ByteFault>
+        ensures answer { map_ok raw_of result ≡ raw_at self.now.position (drop self.now.position self.now.file.now) }
+        ensures size { IfOk result (λ w. length w.body.now ≡ body_length w.kind) }
+        ensures within { IfOk result (λ w. self.now.position + 1 + length w.body.now ≤ length self.now.file.now) }
+    {
+        let place = self.position;
+        let Some((byte, rest)) = self.file[place..].split_first() else {
+            return Err(ByteFault {
+                refusal: Refusal::Truncated,
+                place,
+            });
+        };
+        let kind = Kind::try_from(*byte).map_err(|refusal| ByteFault { refusal, place })?;
+        let Some(body) = rest.get(..kind.body_length()) else {
+            return Err(ByteFault {
+                refusal: Refusal::Truncated,
+                place: self.file.len(),
+            });
+        };
+        Ok(Whole { kind, body })
+    }
+
     // Whether all bytes have been read.
     pub(crate) fn at_end(&self) -> bool
         ensures { result ≡ nat_le (length self.now.file.now) self.now.position }
@@ -80,14 +71,12 @@ impl<'a> Cursor<'a> {
 
     // The next record, through the byte and the record layer. After a fault the cursor stays where it is.
     pub(crate) fn next(&mut self) -> Result<Record, RecordFault>
-        requires { self.old.position ≤ length self.old.file.now }
         ensures answer { map_ok item_of result ≡ record_at self.old.position (drop self.old.position self.old.file.now) }
         ensures same { self.new.file.now ≡ self.old.file.now }
         ensures moves { MatchResult result (λ x. self.new.position ≡ self.old.position + 1 + body_length (kind_of_item (item_of x))) (λ _. self.new.position ≡ self.old.position) }
-        ensures within { self.new.position ≤ length self.new.file.now }
     {
         let place = self.position;
-        let whole = whole_at(self.file, place)?;
+        let whole = self.whole()?;
         let record = checks::check(place, whole.kind, whole.body)?;
         self.position = place + 1 + whole.body.len();
         Ok(record)

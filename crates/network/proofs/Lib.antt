@@ -1,4 +1,4 @@
-pub mod Rows
+pub mod Walking
 pub mod Lookups
 pub mod Places
 pub mod Properness

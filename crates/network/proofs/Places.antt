@@ -1,7 +1,9 @@
 -- Value numbers and places undo each other.
-use Rattle.std.proofs.Common.{◌≡◌, ℕ, zero, suc, ◌+◌, ◌-◌, ◌*◌, ◌<◌, ◌≤◌, min, Bool, true, false, cond, ltb, List, [], ◌∷◌, length, get_or, take, drop, Some, None, Option, sym, refl, ap, ◌∙◌, ⊎_elim, add-zero, zero-add, add-one, arith}
-use Rattle.std.proofs.lemmas.List.{at_drop_more, at_drop_all, take-map, take_all}
-use Rattle.std.proofs.lemmas.Bool.{cases_lt, ltb-true, ltb-false, lt-ltb, le-ltb, cond-true, cond-false}
+use Rattle.std.proofs.Common.{◌≡◌, ℕ, zero, suc, ◌+◌, ◌-◌, ◌*◌, ◌<◌, ◌≤◌, min, Bool, true, false, cond, ltb, List, [], ◌∷◌, length, take, Some, None, Option, sym, refl, ap, ◌∙◌, ⊎_elim, zero-add, add-one, arith}
+use Rattle.std.specs.List.{sum_by}
+use Rattle.std.proofs.lemmas.List.Sums.{sum_by-cons}
+use Rattle.std.proofs.lemmas.List.{take-map, take_all}
+use Rattle.std.proofs.lemmas.Bool.{cases_lt, ltb-true, ltb-false, lt-ltb, le-ltb}
 use Rattle.theory.specs.Numbering.{count, offset, total, number, place, later}
 use Rattle.network.specs.declared.point.Point.{Point}
 use Rattle.network.specs.Bounds.{most_values}
@@ -53,33 +55,10 @@ place_covers (k ∷ ks) (suc p) i h =
     let e : k + offset ks p + i - k ≡ offset ks p + i = omega arith in
     rw (le-ltb (k + offset ks p + i) k far, e, place_covers ks p i h, add-one) refl
 
-abbrev place_of : List Point → ℕ → Option (ℕ × ℕ)
-place_of ps n = place (values_of (entries ps)) n
-
-module _ (ps : List Point) (i : ℕ) (x : Point) (h : i < length ps) (e : x ≡ get_or ps i x) where
-  -- one point more
-  pub total_more : total_of (drop i ps) ≡ x.values + total_of (drop (i + 1) ps)
-  total_more = at_drop_more total_of ps i x h ∙ ap (λ (q : Point). q.values + total_of (drop (i + 1) ps)) (sym e)
-
-  place_more : (n : ℕ) → place_of (drop i ps) n ≡ cond (ltb n x.values) (Some (0, n)) (later (place_of (drop (i + 1) ps) (n - x.values)))
-  place_more n =
-      at_drop_more (λ qs. place_of qs n) ps i x h ∙
-      ap (λ (q : Point). cond (ltb n q.values) (Some (0, n)) (later (place_of (drop (i + 1) ps) (n - q.values)))) (sym e)
-
-  -- the number lies among the point's values
-  pub place_here : (n : ℕ) → n < x.values → later_by i (place_of (drop i ps) n) ≡ Some (i, n)
-  place_here n b =
-      ap (later_by i) (place_more n ∙ cond-true (ltb n x.values) (Some (0, n)) (later (place_of (drop (i + 1) ps) (n - x.values))) (lt-ltb n x.values b)) ∙
-      ap Some (λ k. (add-zero i k, n))
-
-  -- it lies further on
-  pub place_on : (n : ℕ) → x.values ≤ n → later_by i (place_of (drop i ps) n) ≡ later_by (i + 1) (place_of (drop (i + 1) ps) (n - x.values))
-  place_on n b =
-      ap (later_by i) (place_more n ∙ cond-false (ltb n x.values) (Some (0, n)) (later (place_of (drop (i + 1) ps) (n - x.values))) (le-ltb n x.values b)) ∙
-      later_by_more i (place_of (drop (i + 1) ps) (n - x.values))
-
-pub place_past : (ps : List Point) (i n : ℕ) → length ps ≤ i → later_by i (place_of (drop i ps) n) ≡ None
-place_past ps i n h = at_drop_all (λ qs. later_by i (place_of qs n)) ps i h
+-- the values of points are the sum of theirs
+pub total_sum : (ps : List Point) → sum_by (λ (p : Point). p.values) ps ≡ total_of ps
+total_sum [] = refl
+total_sum (p ∷ ps) = rw (sum_by-cons {X = Point}, total_sum ps) refl
 
 -- points of at most 16 values each
 pub total_bound : (ps : List Point) → total_of ps ≤ most_values * length ps

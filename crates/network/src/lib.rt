@@ -1,6 +1,7 @@
 // Networks: points with their labels, tables of allowed pairs, value numbers; and the numbers of the refusals.
 #![tactic(auto)]
 
+pub mod blocks;
 mod network;
 pub mod numbering;
 mod point;

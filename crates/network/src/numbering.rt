@@ -3,30 +3,24 @@ ghost use Rattle.theory.specs.Numbering.{count, offset, total, place};
 ghost use Rattle.network.specs.Bounds.{most_points, most_values};
 ghost use Rattle.network.specs.Points.{entries, values_of, number_at};
 
-use crate::Point;
+use crate::{Point, blocks};
 
 // How many values a point has: 0 where there is no such point.
 pub fn count(points: &[Point], point: usize) -> usize
     ensures value { result ≡ count (values_of (entries points.now)) point }
     ensures bound { result ≤ most_values }
 {
-    match points.get(point) {
-        Some(p) => p.values() as usize,
-        None => 0,
-    }
+    points.get(point).map_or(0, |p| p.values() as usize)
 }
 
+// The bound on the points stands in three contracts: a struct of slice and bound would ask the same of who makes it.
 // How many values the points have in all.
 pub(crate) fn total(points: &[Point]) -> usize
     requires { length points.now ≤ most_points }
     ensures value { result ≡ total (values_of (entries points.now)) }
     ensures bound { result ≤ most_points * most_values }
 {
-    let mut sum = 0;
-    for point in points {
-        sum += point.values() as usize;
-    }
-    sum
+    points.iter().map(|p| p.values() as usize).sum()
 }
 
 // How many values the points before this one have.
@@ -35,8 +29,7 @@ pub fn offset(points: &[Point], point: usize) -> usize
     ensures value { result ≡ offset (values_of (entries points.now)) point }
     ensures bound { result ≤ most_points * most_values }
 {
-    let n = points.len().min(point);
-    total(&points[0..n])
+    total(&points[..points.len().min(point)])
 }
 
 // The number of a value: nothing where there is no such value.
@@ -55,13 +48,5 @@ pub fn number(points: &[Point], point: usize, value: usize) -> Option<usize>
 pub(crate) fn place(points: &[Point], number: usize) -> Option<(usize, usize)>
     ensures { result ≡ place (values_of (entries points.now)) number }
 {
-    let mut left = number;
-    for (p, point) in points.iter().enumerate() {
-        let values = point.values() as usize;
-        if left < values {
-            return Some((p, left));
-        }
-        left -= values;
-    }
-    None
+    blocks::locate(points.len(), |point| count(points, point), number)
 }

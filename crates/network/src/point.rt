@@ -7,6 +7,7 @@ use crate::{LABEL_BYTES, MAX_VALUES};
 #[derive(Clone, Copy)]
 pub struct Point {
     values: u8,
+    // an array, since the format fixes its size
     label: [u8; LABEL_BYTES],
     ghost within: { PointWithin values label },
 }
@@ -15,12 +16,7 @@ pub struct Point {
 fn printable(label: &[u8]) -> bool
     ensures { Decides result ((k : ℕ) → k < length label.now → Printable (slice_index label.now k)) }
 {
-    for b in label {
-        if *b < 0x20 || *b > 0x7e {
-            return false;
-        }
-    }
-    true
+    label.iter().all(|b| (0x20..=0x7e).contains(b))
 }
 
 impl Point {

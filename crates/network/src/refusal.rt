@@ -2,30 +2,30 @@ ghost use Rattle.std.specs.Prelude.{◌≡◌};
 ghost use Rattle.network.specs.Refusals.{number_of};
 
 // Why a call was refused.
-#[derive(Clone, Copy)]
+#[derive(Clone, Copy, Debug, PartialEq, Eq)]
 pub enum Refusal {
     // the file stops inside a record, or before the end record
-    Truncated,
+    Truncated = 1,
     // the kind of a record is none of those there are
-    UnknownKind,
+    UnknownKind = 2,
     // the head's version, number of points or number of tables is out of range
-    BadHead,
+    BadHead = 3,
     // a point's value count or a byte of its label is out of range
-    BadPoint,
+    BadPoint = 4,
     // a table's lower point is not below its higher point
-    BadTable,
+    BadTable = 5,
     // a record of this kind may not come here
-    Misplaced,
+    Misplaced = 6,
     // a table names a point that is missing
-    MissingPoint,
+    MissingPoint = 7,
     // a pair names a value that is missing
-    MissingValue,
+    MissingValue = 8,
     // a pair stands twice in one table
-    RepeatedPair,
+    RepeatedPair = 9,
     // the end record's count of pairs is wrong
-    WrongCount,
+    WrongCount = 10,
     // bytes follow the end record
-    TrailingBytes,
+    TrailingBytes = 11,
 }
 
 impl Refusal {
@@ -33,18 +33,6 @@ impl Refusal {
     pub fn number(&self) -> u8
         ensures { result ≡ number_of self.now }
     {
-        match self {
-            Refusal::Truncated => 1,
-            Refusal::UnknownKind => 2,
-            Refusal::BadHead => 3,
-            Refusal::BadPoint => 4,
-            Refusal::BadTable => 5,
-            Refusal::Misplaced => 6,
-            Refusal::MissingPoint => 7,
-            Refusal::MissingValue => 8,
-            Refusal::RepeatedPair => 9,
-            Refusal::WrongCount => 10,
-            Refusal::TrailingBytes => 11,
-        }
+        *self as u8
     }
 }

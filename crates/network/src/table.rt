@@ -10,6 +10,7 @@ mod pairs;
 pub struct Table {
     low: u8,
     high: u8,
+    // an array, since the bounds fix its size
     rows: [[bool; MAX_VALUES]; MAX_VALUES],
     ghost narrow: { (i : ℕ) → length (slice_index_or rows i []) ≤ most_values },
 }

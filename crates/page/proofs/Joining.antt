@@ -1,10 +1,8 @@
 -- Texts that are written one after the other.
-use Rattle.std.proofs.Common.{◌≡◌, ℕ, ◌+◌, ◌<◌, ◌≤◌, List, [], ◌∷◌, ◌++◌, length, take, drop, set, Ok, Err, Result, sym, refl, ap, ◌∙◌, add-zero, arith}
-use Rattle.std.proofs.lemmas.List.{append-nil, append_assoc, take-append-drop, drop_all, length-append, length_push, length-take-le}
+use Rattle.std.proofs.Common.{◌≡◌, ℕ, ◌+◌, ◌<◌, ◌≤◌, List, [], ◌∷◌, ◌++◌, length, take, drop, set, sym, ap, ◌∙◌, arith}
+use Rattle.std.proofs.lemmas.List.{append_assoc, length-append, length_push, length-take-le}
 use Rattle.books.proofs.Filling.{fill_more, part_more}
-use Rattle.page.specs.declared.refusal.PageRefusal.{PageRefusal}
-use Rattle.page.specs.declared.refusal.PageRefusal.TheVariants.{TooShort}
-use Rattle.page.specs.Writing.{Placed, Written}
+use Rattle.page.specs.Writing.{Placed}
 
 -- two texts that are written one behind the other are one text
 pub placed_both :
@@ -29,13 +27,3 @@ placed_more t old mid at m x h k f =
           ap (λ ys. ys ++ drop (m + 1) old) (append_assoc (take at old) t (x ∷ [])) ∙
           ap (λ n. (take at old ++ (t ++ x ∷ [])) ++ drop n old) past,
     )
-
--- nothing is written yet
-pub placed_none : (old : List ℕ) (at : ℕ) → Placed [] at old old (at + 0)
-placed_none old at =
-    (refl, sym (ap (λ k. (take at old ++ []) ++ drop k old) (add-zero at) ∙ ap (λ t. t ++ drop at old) (append-nil (take at old)) ∙ take-append-drop at old))
-
--- a text that is written over as many bytes as it has is all of them
-pub written_whole : (text old new : List ℕ) (r : Result ℕ PageRefusal) → length old ≡ length text → Written text old new r → new ≡ text
-written_whole text old new (Ok n) e w = w.2 ∙ ap (λ t. text ++ t) (drop_all n old (omega (arith, w.0))) ∙ append-nil text
-written_whole text old new (Err TooShort) e w = absurd (omega (arith, w.0))

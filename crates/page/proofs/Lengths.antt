@@ -10,7 +10,6 @@ use Rattle.network.proofs.Lookups.{count_at, label_at_lem}
 use Rattle.calls.specs.States.{State, counts_of, mark_at}
 use Rattle.session.specs.declared.session.Session.{Session}
 use Rattle.session.specs.Sessions.{state_of}
-use Rattle.session.proofs.Finding.{many_points}
 use Rattle.page.specs.Pages.{sign_text, signs_text, line_text}
 
 module _ {A : Type 0} (f : ℕ → List A) where
@@ -35,10 +34,6 @@ module _ {A : Type 0} (f : ℕ → List A) where
 -- how many signs a line has
 pub length_signs : (s : State) (p : ℕ) → length (signs_text s p) ≡ count (counts_of s) p
 length_signs s p = length-map-range_with_len (λ v. sign_text (mark_at s p v)) 0 (count (counts_of s) p)
-
--- a point that is there is among those that the session gives
-pub point_there : (s : Session) (ps : List Point) (i : ℕ) → ps ≡ vec_items s.points → i < length (state_of s).points → i < length ps
-point_there s ps i same h = omega (arith, ap length same, many_points s, s.points.ok.0)
 
 module _ (s : Session) (ps : List Point) (i : ℕ) (p : Point) (same : ps ≡ vec_items s.points) (h : i < length ps) (e : p ≡ get_or ps i p) where
   -- the label of a point that is there

@@ -1,3 +1,4 @@
 pub mod Joining
 pub mod Lengths
 pub mod Examples
+pub mod Marked

@@ -18,6 +18,10 @@ sign_text Open = 46
 abbrev pub signs_text : State → ℕ → List ℕ
 signs_text s p = map (λ v. sign_text (mark_at s p v)) (values (counts_of s) p)
 
+-- a label and marks as they are shown: the label, a space, the signs and a line feed
+abbrev pub shown_text : List ℕ → List Mark → List ℕ
+shown_text label marks = label ++ (codes " " ++ (map sign_text marks ++ codes "\n"))
+
 -- the line of the point p: its label, a space, the signs of its values and a line feed
 abbrev pub line_text : State → ℕ → List ℕ
 line_text s p = unwrap_or (label_at s.points p) [] ++ (codes " " ++ (signs_text s p ++ codes "\n"))

@@ -1,35 +1,35 @@
-ghost use Rattle.std.specs.Prelude.{◌≡◌, ◌+◌, ◌<◌, ◌≤◌, false, length};
+ghost use Rattle.std.specs.Prelude.{◌≡◌, ◌+◌, ◌≤◌, false, length};
 ghost use Rattle.calls.specs.States.{is_clashed};
 ghost use Rattle.session.specs.Sessions.{state_of};
-ghost use Rattle.page.specs.Pages.{line_text, lines_text};
+ghost use Rattle.page.specs.Pages.{lines_text, shown_text};
 ghost use Rattle.page.specs.Writing.{Placed};
 
 use crate::bytes::write_bytes;
 use crate::signs::write_signs;
+use network::Point;
 use session::Session;
+use theory::Mark;
 
 // How many bytes the lines of all points have.
 pub(crate) fn lines_length(session: &Session) -> usize
     ensures { result ≡ length (lines_text (state_of session.now)) }
 {
     let mut sum = 0;
+    // a `for`: the check found no bound for the sum of a chain here (`sum-requires-clause-fits`)
     for point in session.points() {
         sum += point.label().len() + 1 + point.values() as usize + 1;
     }
     sum
 }
 
-// Writes the line of a point from a place on, and answers the place behind it.
-fn write_line(session: &Session, point: usize, out: &mut [u8], at: usize) -> usize
-    requires there { point < length (state_of session.now).points }
-    requires calm { is_clashed (state_of session.now) ≡ false }
-    requires room { at + length (line_text (state_of session.now) point) ≤ length out.old }
-    ensures { Placed (line_text (state_of session.now) point) at out.old out.new result }
+// Writes the line of a point with the marks of its values from a place on, and answers the place behind it.
+fn write_line(point: &Point, marks: &[Mark], out: &mut [u8], at: usize) -> usize
+    requires { at + length (shown_text point.now.label marks.now) ≤ length out.old }
+    ensures { Placed (shown_text point.now.label marks.now) at out.old out.new result }
 {
-    let shown = session.points()[point];
-    let at = write_bytes(&shown.label(), out, at);
+    let at = write_bytes(&point.label(), out, at);
     let at = write_bytes(b" ", out, at);
-    let at = write_signs(session, point, shown.values() as usize, out, at);
+    let at = write_signs(marks, out, at);
     write_bytes(b"\n", out, at)
 }
 
@@ -40,8 +40,8 @@ pub(crate) fn write_lines(session: &Session, out: &mut [u8]) -> usize
     ensures { Placed (lines_text (state_of session.now)) 0 out.old out.new result }
 {
     let mut at = 0;
-    for point in 0..session.points().len() {
-        at = write_line(session, point, out, at);
+    for (p, point) in session.points().iter().enumerate() {
+        at = write_line(point, session.marks(p).unwrap(), out, at);
     }
     at
 }

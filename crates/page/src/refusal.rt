@@ -2,10 +2,10 @@ ghost use Rattle.std.specs.Prelude.{◌≡◌};
 ghost use Rattle.page.specs.Refusals.{number_of};
 
 // Why a page was not written.
-#[derive(Clone, Copy)]
+#[derive(Clone, Copy, Debug, PartialEq, Eq)]
 pub enum PageRefusal {
     // there are too few bytes
-    TooShort,
+    TooShort = 21,
 }
 
 impl PageRefusal {
@@ -13,8 +13,6 @@ impl PageRefusal {
     pub fn number(&self) -> u8
         ensures { result ≡ number_of self.now }
     {
-        match self {
-            PageRefusal::TooShort => 21,
-        }
+        *self as u8
     }
 }

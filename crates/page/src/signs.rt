@@ -1,13 +1,10 @@
-ghost use Rattle.std.specs.Prelude.{◌≡◌, ◌+◌, ◌≤◌, false, length};
-ghost use Rattle.theory.specs.Numbering.{count as count_at};
-ghost use Rattle.calls.specs.States.{counts_of, is_clashed};
-ghost use Rattle.session.specs.Sessions.{state_of};
-ghost use Rattle.page.specs.Pages.{sign_text, signs_text};
+ghost use Rattle.std.specs.Prelude.{◌≡◌, ◌+◌, ◌≤◌, map, length};
+ghost use Rattle.page.specs.Pages.{sign_text};
 ghost use Rattle.page.specs.Writing.{Placed};
 
-use session::Session;
 use theory::Mark;
 
+// A function and no `Display`: what `Mark` displays is its name.
 // The sign of a mark.
 fn sign(mark: Mark) -> u8
     ensures { result ≡ sign_text mark }
@@ -19,21 +16,13 @@ fn sign(mark: Mark) -> u8
     }
 }
 
-// Writes the signs of a point's values from a place on, and answers the place behind them.
-pub(crate) fn write_signs(
-    session: &Session,
-    point: usize,
-    count: usize,
-    out: &mut [u8],
-    at: usize,
-) -> usize
-    requires all { count ≡ count_at (counts_of (state_of session.now)) point }
-    requires calm { is_clashed (state_of session.now) ≡ false }
-    requires room { at + count ≤ length out.old }
-    ensures { Placed (signs_text (state_of session.now) point) at out.old out.new result }
+// Writes the signs of marks from a place on, and answers the place behind them.
+pub(crate) fn write_signs(marks: &[Mark], out: &mut [u8], at: usize) -> usize
+    requires { at + length marks.now ≤ length out.old }
+    ensures { Placed (map sign_text marks.now) at out.old out.new result }
 {
-    for v in 0..count {
-        out[at + v] = sign(session.mark(point, v).unwrap());
+    for (v, mark) in marks.iter().enumerate() {
+        out[at + v] = sign(*mark);
     }
-    at + count
+    at + marks.len()
 }

@@ -1,53 +1,110 @@
-ghost use Rattle.std.specs.Prelude.{◌≡◌, ◌+◌, ◌≤◌, length};
+ghost use Rattle.std.specs.Prelude.{◌≡◌, ◌+◌, ◌<◌, ◌≤◌, length, IfSome, slice_get, slice_index};
 ghost use Rattle.theory.specs.Network.{near, far, partner};
-ghost use Rattle.theory.specs.Encodings.{support_clause};
+ghost use Rattle.theory.specs.Numbering.{count};
 ghost use Rattle.network.specs.Bounds.{most_values};
 ghost use Rattle.network.specs.Points.{counts_of};
 ghost use Rattle.network.specs.Tables.{table_of};
+ghost use Rattle.partners.specs.Ends.{partners_of, support_of};
 
+use crate::literal;
 use network::{PointList, Table};
 use theory::Side;
 
-// The point at one end of a table.
-pub fn near_point(table: &Table, side: Side) -> usize
-    ensures { result ≡ near side (table_of table.now) }
-{
-    match side {
-        Side::Lower => table.low(),
-        Side::Higher => table.high(),
-    }
+// One end of a table: the point there is the near point, and the one at the other end the far point.
+#[derive(Clone, Copy)]
+pub struct End<'a> {
+    points: &'a PointList,
+    table: &'a Table,
+    side: Side,
 }
 
-// The point at the other end.
-pub fn far_point(table: &Table, side: Side) -> usize
-    ensures { result ≡ far side (table_of table.now) }
-{
-    match side {
-        Side::Lower => table.high(),
-        Side::Higher => table.low(),
-    }
-}
-
-// Whether the value j of the other end is a partner of the value i of this end.
-pub fn is_partner(table: &Table, side: Side, i: usize, j: usize) -> bool
-    ensures { result ≡ partner side (table_of table.now) i j }
-{
-    match side {
-        Side::Lower => table.allows(i, j),
-        Side::Higher => table.allows(j, i),
-    }
-}
-
-// How many partners a value has.
-pub fn partners(points: &PointList, table: &Table, side: Side, i: usize) -> usize
-    ensures value { result + 1 ≡ length (support_clause (counts_of points.now) side (table_of table.now) i) }
-    ensures bound { result ≤ most_values }
-{
-    let mut n = 0;
-    for j in 0..points.count(far_point(table, side)) {
-        if is_partner(table, side, i, j) {
-            n += 1;
+impl<'a> End<'a> {
+    // The end of a table on one side.
+    pub fn new(points: &'a PointList, table: &'a Table, side: Side) -> End<'a>
+        ensures points { result.points.now ≡ points.now }
+        ensures table { result.table.now ≡ table.now }
+        ensures side { result.side ≡ side }
+    {
+        End {
+            points,
+            table,
+            side,
         }
     }
-    n
+
+    // `near` and `far` stay two: each is one match, and a shared one would only be told which
+    // The near point.
+    pub fn near(&self) -> usize
+        ensures { result ≡ near self.now.side (table_of self.now.table.now) }
+    {
+        // a match: there are just these two sides
+        match self.side {
+            Side::Lower => self.table.low(),
+            Side::Higher => self.table.high(),
+        }
+    }
+
+    // The far point.
+    pub fn far(&self) -> usize
+        ensures { result ≡ far self.now.side (table_of self.now.table.now) }
+    {
+        // a match: there are just these two sides
+        match self.side {
+            Side::Lower => self.table.high(),
+            Side::Higher => self.table.low(),
+        }
+    }
+
+    // How many values the near point has.
+    pub fn values(&self) -> usize
+        ensures value { result ≡ count (counts_of self.now.points.now) (near self.now.side (table_of self.now.table.now)) }
+        ensures bound { result ≤ most_values }
+    {
+        self.points.count(self.near())
+    }
+
+    // Whether the far point's value j is a partner of the value i.
+    pub fn is_partner(&self, i: usize, j: usize) -> bool
+        ensures { result ≡ partner self.now.side (table_of self.now.table.now) i j }
+    {
+        // a match: there are just these two sides
+        match self.side {
+            Side::Lower => self.table.allows(i, j),
+            Side::Higher => self.table.allows(j, i),
+        }
+    }
+
+    // How many partners the value i has.
+    pub fn partners(&self, i: usize) -> usize
+        ensures value { result + 1 ≡ length (support_of self.now i) }
+        ensures bound { result ≤ most_values }
+    {
+        (0..self.points.count(self.far()))
+            .filter(|value| self.is_partner(i, *value))
+            .count()
+    }
+
+    // Partner n of the value i: nothing where it has no more than n.
+    pub fn partner(&self, i: usize, n: usize) -> Option<usize>
+        ensures value { result ≡ slice_get (partners_of self.now i) n }
+        ensures bound { IfSome result (λ j. j < most_values) }
+    {
+        (0..self.points.count(self.far()))
+            .filter(|j| self.is_partner(i, *j))
+            .nth(n)
+    }
+
+    // Literal n of the support clause of the value i: 0 where there is none.
+    pub fn support_literal(&self, i: u8, n: usize) -> u32
+        ensures { result ≡ slice_index (support_of self.now i) n }
+    {
+        let value = i as usize;
+        if n == 0 {
+            return literal::is_out(self.points.offset(self.near()) + value);
+        }
+        match self.partner(value, n - 1) {
+            Some(partner) => literal::is_in(self.points.offset(self.far()) + partner),
+            None => 0,
+        }
+    }
 }

@@ -1,5 +1,7 @@
-// The ends of a table, the partners of its values, and literals, each with its number. What `encodings` has of these stands there for its lists.
+// The ends of a table, the partners of its values, and literals, each with its number.
 #![tactic(auto)]
 
-pub mod ends;
+mod ends;
 pub mod literal;
+
+pub use ends::End;

@@ -1,6 +1,7 @@
 ghost use Rattle.std.specs.Prelude.{◌≡◌, ◌<◌};
 ghost use Rattle.theory.specs.Literals.{is_in, is_out};
 
+// `is_in` and `is_out` stay two names for two literals: a flag in their place would be no plainer.
 // The literal that a value is in.
 pub fn is_in(number: usize) -> u32
     requires { number < 1024 }

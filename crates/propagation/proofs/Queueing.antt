@@ -1,6 +1,6 @@
 -- How a trail grows, and how the queue moves on.
 use Rattle.std.proofs.Common.{◌≡◌, ℕ, ◌+◌, ◌-◌, ◌<◌, ◌≤◌, false, List, [], ◌∷◌, ◌++◌, length, get_or, drop, Some, None, sym, refl, ap, ◌∙◌, subst, inl, inr, ⊎_elim, arith}
-use Rattle.std.proofs.lemmas.List.{append-nil, append_assoc, length-append, drop-append-le, drop_more, drop_all, drop-drop}
+use Rattle.std.proofs.lemmas.List.{append_assoc, length-append, drop-append-le, drop_more, drop_all, drop-drop}
 use Rattle.std.proofs.lemmas.Bool.{cases_Bool, both_ways, cases_eq}
 use Rattle.theory.specs.Lists.{◌∈◌, has}
 use Rattle.theory.specs.Literals.{opposite}
@@ -19,9 +19,6 @@ in_drop_le m n xs x h i =
 
 -- the trail grows
 module _ (cs : List (List ℕ)) where
-  pub grew_none : (t : List ℕ) → Grew cs t t
-  grew_none t = record { more = []; is = sym (append-nil t); sound = decided cs t }
-
   pub grew_step : (t u w : List ℕ) → Grew cs t u → Grew cs u w → Grew cs t w
   grew_step t u w a b = record {
     more = a.more ++ b.more;

@@ -1,11 +1,9 @@
 -- What a trail's literals say of a clause.
-use Rattle.std.specs.Prelude.{◌≡◌, ℕ, List, Some, None, Option, ◌≢◌}
+use Rattle.std.specs.Prelude.{◌≡◌, ℕ, List, Some, None, Option, Ok, Err, Result, ◌≢◌}
 use Rattle.theory.specs.Lists.{◌∈◌}
 use Rattle.theory.specs.Literals.{opposite}
-use Rattle.trail.specs.declared.truth.Truth.TheVariants.{Open}
 use Rattle.trail.specs.Truths.{truth_of}
-use Rattle.propagation.specs.declared.finding.Finding.{Finding}
-use Rattle.propagation.specs.declared.finding.Finding.TheVariants.{Settled, Forces, Refuted}
+use Rattle.propagation.specs.declared.conflict.Conflict.{Conflict}
 
 -- t holds the opposites of the literals of c other than l
 abbrev pub OthersFalse : List ℕ → List ℕ → ℕ → Type 0
@@ -18,10 +16,10 @@ Still t c = (l : ℕ) → l ∈ c → OthersFalse t c l → l ∈ t
 -- all literals of c are false, or all but one, of which t says nothing
 abbrev pub Only : List ℕ → List ℕ → Option ℕ → Type 0
 Only t c None = (m : ℕ) → m ∈ c → opposite m ∈ t
-Only t c (Some l) = (l ∈ c) × (truth_of t l ≡ Open) × OthersFalse t c l
+Only t c (Some l) = (l ∈ c) × (truth_of t l ≡ None) × OthersFalse t c l
 
--- what each finding says of the clause c under t
-abbrev pub Finds : List ℕ → List ℕ → Finding → Type 0
-Finds t c Settled = Still t c
-Finds t c (Forces l) = Only t c (Some l)
-Finds t c Refuted = Only t c None
+-- the clause c forces no literal that t lacks, or the one that is found, or all its literals are false
+abbrev pub Finds : List ℕ → List ℕ → Result (Option ℕ) Conflict → Type 0
+Finds t c (Ok None) = Still t c
+Finds t c (Ok (Some l)) = Only t c (Some l)
+Finds t c (Err e) = Only t c None

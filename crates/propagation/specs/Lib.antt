@@ -1,3 +1,4 @@
 pub mod Reaches
 pub mod Finds
 pub mod Queue
+pub mod Outcomes

@@ -1,4 +1,4 @@
-ghost use Rattle.std.specs.Prelude.{◌≡◌, ℕ, ◌*◌, ◌<◌, true, false, List, length};
+ghost use Rattle.std.specs.Prelude.{◌≡◌, ℕ, ◌*◌, ◌<◌, List, length, OnOk, OnErr};
 ghost use Rattle.theory.specs.Lists.{◌∈◌};
 ghost use Rattle.clause_store.specs.Contents.{clauses_of, clause_of};
 ghost use Rattle.trail.specs.Parts.{literals_of, values_of};
@@ -6,59 +6,54 @@ ghost use Rattle.propagation.specs.Reaches.{Clash};
 ghost use Rattle.propagation.specs.Finds.{Still};
 ghost use Rattle.propagation.specs.Queue.{Grew, Done};
 
-use crate::finding::Finding;
+use crate::Conflict;
 use crate::scanning::scan;
 use clause_store::ClauseStore;
 use trail::Trail;
 
-// Adds the literal that clause i forces; says whether the clause is refuted.
-pub(crate) fn visit(store: &ClauseStore, trail: &mut Trail, i: usize) -> bool
+// Store and trail stay two parameters: as the two references of one struct, each method has to say instead that they stay the same.
+// Adds the literal that clause i forces.
+pub(crate) fn visit(store: &ClauseStore, trail: &mut Trail, i: usize) -> Result<(), Conflict>
     requires sized { store.now.values ≡ values_of trail.old }
     requires within { i < length (clauses_of store.now) }
     ensures many { values_of trail.new ≡ values_of trail.old }
     ensures grew { Grew (clauses_of store.now) (literals_of trail.old) (literals_of trail.new) }
-    ensures calm { result ≡ false → Still (literals_of trail.new) (clause_of store.now i) }
-    ensures clash { result ≡ true → Clash (clauses_of store.now) (literals_of trail.old) }
+    ensures calm { OnOk result (Still (literals_of trail.new) (clause_of store.now i)) }
+    ensures clash { OnErr result (Clash (clauses_of store.now) (literals_of trail.old)) }
 {
-    match scan(trail, store.clause(i)) {
-        Finding::Settled => false,
-        Finding::Forces(literal) => {
-            trail.push(literal);
-            false
-        }
-        Finding::Refuted => true,
+    if let Some(literal) = scan(trail, store.clause(i))? {
+        trail.push(literal);
     }
+    Ok(())
 }
 
-// Visits each clause that holds a literal; says whether one is refuted.
-pub(crate) fn sweep(store: &ClauseStore, trail: &mut Trail, literal: u32) -> bool
+// Visits each clause that holds a literal, up to a conflict.
+pub(crate) fn sweep(store: &ClauseStore, trail: &mut Trail, literal: u32) -> Result<(), Conflict>
     requires sized { store.now.values ≡ values_of trail.old }
     requires within { literal < 2 * store.now.values }
     ensures many { values_of trail.new ≡ values_of trail.old }
     ensures grew { Grew (clauses_of store.now) (literals_of trail.old) (literals_of trail.new) }
-    ensures calm { result ≡ false → (c : List ℕ) → c ∈ clauses_of store.now → literal ∈ c → Done (literals_of trail.new) (length (literals_of trail.old)) c }
-    ensures clash { result ≡ true → Clash (clauses_of store.now) (literals_of trail.old) }
+    ensures calm { OnOk result ((c : List ℕ) → c ∈ clauses_of store.now → literal ∈ c → Done (literals_of trail.new) (length (literals_of trail.old)) c) }
+    ensures clash { OnErr result (Clash (clauses_of store.now) (literals_of trail.old)) }
 {
+    // apart from `visit_all`: the two promise that other clauses are settled
     for i in store.holding(literal) {
-        if visit(store, trail, *i) {
-            return true;
-        }
+        visit(store, trail, *i)?;
     }
-    false
+    Ok(())
 }
 
-// Visits every clause; says whether one is refuted.
-pub(crate) fn visit_all(store: &ClauseStore, trail: &mut Trail) -> bool
+// Visits every clause, up to a conflict.
+pub(crate) fn visit_all(store: &ClauseStore, trail: &mut Trail) -> Result<(), Conflict>
     requires sized { store.now.values ≡ values_of trail.old }
     ensures many { values_of trail.new ≡ values_of trail.old }
     ensures grew { Grew (clauses_of store.now) (literals_of trail.old) (literals_of trail.new) }
-    ensures calm { result ≡ false → (c : List ℕ) → c ∈ clauses_of store.now → Done (literals_of trail.new) 0 c }
-    ensures clash { result ≡ true → Clash (clauses_of store.now) (literals_of trail.old) }
+    ensures calm { OnOk result ((c : List ℕ) → c ∈ clauses_of store.now → Done (literals_of trail.new) 0 c) }
+    ensures clash { OnErr result (Clash (clauses_of store.now) (literals_of trail.old)) }
 {
+    // by number, as `visit` takes a clause from the index
     for i in 0..store.count() {
-        if visit(store, trail, i) {
-            return true;
-        }
+        visit(store, trail, i)?;
     }
-    false
+    Ok(())
 }

@@ -2,13 +2,11 @@
 use Rattle.std.proofs.Common.{◌≡◌, ℕ, ◌+◌, ◌-◌, ◌*◌, ◌<◌, ◌≤◌, Bool, false, List, [], ◌∷◌, ◌++◌, length, get_or, take, sym, refl, ap, ◌∙◌, subst, subst₂, ⊎_elim, arith, below_more}
 use Rattle.std.proofs.lemmas.List.{length_push, length-append, length-take-le, get_or_push, get_or_append_left, get_or-take, take_at, take-append-le, take-take, append_assoc, take_all}
 use Rattle.std.proofs.lemmas.Bool.{cases_eq}
-use Rattle.theory.specs.Lists.{has}
-use Rattle.theory.specs.Reached.{reached_set}
 use Rattle.theory.specs.Marks.{clashed}
 use Rattle.propagation.specs.Reaches.{HoldsReached}
 use Rattle.propagator.specs.Standing.{Standing}
 
-module _ (n : ℕ) (cs : List (List ℕ)) (t ds hs : List ℕ) (b : Bool) (k : Standing n cs t ds hs b) where
+module _ (n : ℕ) (cs : List (List ℕ)) (t ds hs : List ℕ) (b : Bool) (k : Standing n cs t ds hs b) (many : length hs ≡ length ds) where
   -- each decision has a place in the trail
   pub few : length hs ≤ length t
   few = ⊎_elim (λ z. omega arith) (λ z. omega (arith, k.climb (length hs - 1) (omega arith), k.within (length hs - 1) (omega arith))) (cases_eq (length hs) 0)
@@ -24,7 +22,6 @@ module _ (n : ℕ) (cs : List (List ℕ)) (t ds hs : List ℕ) (b : Bool) (k : S
         l < 2 * n → HoldsReached cs n ds t → (r ≡ false → HoldsReached cs n (ds ++ l ∷ []) u) → r ≡ clashed cs n (ds ++ l ∷ []) →
         Standing n cs u (ds ++ l ∷ []) (hs ++ length t ∷ []) r
     standing_decide lt now calm flag = record {
-      many = omega (arith, length_push hs (length t), length_push ds l, k.many);
       small = small;
       rise = rise;
       climb = climb;
@@ -58,8 +55,8 @@ module _ (n : ℕ) (cs : List (List ℕ)) (t ds hs : List ℕ) (b : Bool) (k : S
 
         past : (j : ℕ) → j < length (hs ++ length t ∷ []) → HoldsReached cs n (take j (ds ++ l ∷ [])) (take (get_or (hs ++ length t ∷ []) j 0) u)
         past = rw length_push (below_more (λ j. HoldsReached cs n (take j (ds ++ l ∷ [])) (take (get_or (hs ++ length t ∷ []) j 0) u)) (length hs)
-            (λ j h. subst₂ (HoldsReached cs n) (sym (take-append-le j ds (l ∷ []) (omega (arith, k.many)))) (sym (ap (λ x. take x u) (early j h) ∙ front (get_or hs j 0) (omega (arith, k.within j h)))) (k.past j h))
-            (subst₂ (HoldsReached cs n) (sym (take_at ds (l ∷ []) (length hs) (sym k.many))) (sym (ap (λ x. take x u) last ∙ front (length t) (omega arith) ∙ take_all (length t) t (omega arith))) now))
+            (λ j h. subst₂ (HoldsReached cs n) (sym (take-append-le j ds (l ∷ []) (omega (arith, many)))) (sym (ap (λ x. take x u) (early j h) ∙ front (get_or hs j 0) (omega (arith, k.within j h)))) (k.past j h))
+            (subst₂ (HoldsReached cs n) (sym (take_at ds (l ∷ []) (length hs) (sym many))) (sym (ap (λ x. take x u) last ∙ front (length t) (omega arith) ∙ take_all (length t) t (omega arith))) now))
 
   -- one decision less
   module _ (es gs u : List ℕ) (h : ℕ) (q : hs ≡ gs ++ h ∷ []) (p : es ≡ take (length ds - 1) ds) (is : u ≡ take h t) where
@@ -79,7 +76,7 @@ module _ (n : ℕ) (cs : List (List ℕ)) (t ds hs : List ℕ) (b : Bool) (k : S
     size = ap length is ∙ length-take-le h t (omega (arith, back_within))
 
     fewer : length es ≡ length gs
-    fewer = ap length p ∙ length-take-le (length ds - 1) ds (omega arith) ∙ omega (arith, long, k.many)
+    fewer = ap length p ∙ length-take-le (length ds - 1) ds (omega arith) ∙ omega (arith, long, many)
 
     under : (j : ℕ) → j < length gs → get_or gs j 0 < h
     under j lt = omega (arith, early j lt, last, k.rise j (length gs) lt (omega (arith, long)))
@@ -87,13 +84,12 @@ module _ (n : ℕ) (cs : List (List ℕ)) (t ds hs : List ℕ) (b : Bool) (k : S
     -- the trail as it was before the decision holds what was reached
     pub back_holds : HoldsReached cs n es u
     back_holds =
-        subst₂ (HoldsReached cs n) (ap (λ x. take x ds) (omega (arith, long, k.many)) ∙ sym p) (ap (λ x. take x t) last ∙ sym is)
+        subst₂ (HoldsReached cs n) (ap (λ x. take x ds) (omega (arith, long, many)) ∙ sym p) (ap (λ x. take x t) last ∙ sym is)
         (k.past (length gs) (omega (arith, long)))
 
     pub standing_back : clashed cs n es ≡ false → Standing n cs u es gs false
     standing_back calm = record {
-      many = sym fewer;
-      small = λ j lt. let o : j < length ds - 1 = omega (arith, fewer, long, k.many) in
+      small = λ j lt. let o : j < length ds - 1 = omega (arith, fewer, long, many) in
           subst (λ x. get_or x j 0 < 2 * n) (sym p) (rw (get_or-take (length ds - 1) ds j 0 o) (k.small j (omega arith)));
       rise = λ i j lt o. omega (arith, early i (omega arith), early j o, k.rise i j lt (omega (arith, long)));
       climb = λ j o. omega (arith, early j o, k.climb j (omega (arith, long)));
@@ -104,34 +100,7 @@ module _ (n : ℕ) (cs : List (List ℕ)) (t ds hs : List ℕ) (b : Bool) (k : S
     }
       where
         ds_front : (j : ℕ) → j < length gs → take j ds ≡ take j es
-        ds_front j o = sym (ap (take j) p ∙ take-take j (length ds - 1) ds (omega (arith, long, k.many)))
+        ds_front j o = sym (ap (take j) p ∙ take-take j (length ds - 1) ds (omega (arith, long, many)))
 
         t_front : (j : ℕ) → j < length gs → take (get_or hs j 0) t ≡ take (get_or gs j 0) u
         t_front j o = ap (λ x. take x t) (early j o) ∙ sym (ap (take (get_or gs j 0)) is ∙ take-take (get_or gs j 0) h t (omega (arith, under j o)))
-
--- with no decision
-pub standing_none : (n : ℕ) (cs : List (List ℕ)) (t : List ℕ) (b : Bool) → (b ≡ false → HoldsReached cs n [] t) → b ≡ clashed cs n [] → Standing n cs t [] [] b
-standing_none n cs t b f g = record {
-  many = refl;
-  small = λ k h. absurd (omega arith);
-  rise = λ j k o h. absurd (omega arith);
-  climb = λ k h. absurd (omega arith);
-  within = λ k h. absurd (omega arith);
-  past = λ k h. absurd (omega arith);
-  here = f;
-  flag = g;
-}
-
--- with no value, no clause and no decision
-pub standing_empty :
-    (n : ℕ) (cs : List (List ℕ)) (t ds hs : List ℕ) → n ≡ 0 → cs ≡ [] → t ≡ [] → ds ≡ [] → hs ≡ [] → Standing n cs t ds hs false
-standing_empty n cs t ds hs p q e d h = record {
-  many = ap length h ∙ sym (ap length d);
-  small = λ k lt. absurd (omega (arith, ap length d));
-  rise = λ j k o lt. absurd (omega (arith, ap length h));
-  climb = λ k lt. absurd (omega (arith, ap length h));
-  within = λ k lt. absurd (omega (arith, ap length h));
-  past = λ k lt. absurd (omega (arith, ap length h));
-  here = λ _ l. ap (λ x. has x l) e ∙ sym (λ i. has (reached_set (q i) (p i) (d i)) l);
-  flag = sym (λ i. clashed (q i) (p i) (d i));
-}

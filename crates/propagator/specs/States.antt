@@ -5,6 +5,7 @@ use Rattle.theory.specs.declared.Mark.TheVariants.{Open}
 use Rattle.theory.specs.Marks.{clashed, mark}
 use Rattle.clause_store.specs.Contents.{clauses_of}
 use Rattle.propagator.specs.declared.propagator.Propagator.{Propagator}
+use Rattle.propagator.specs.Decisions.{literals_in}
 
 -- how many values there are, the clauses, and the decisions that stand, the latest last
 pub record State : Type 0 where
@@ -14,7 +15,7 @@ pub record State : Type 0 where
 
 -- the state of a propagator
 abbrev pub state_of : Propagator → State
-state_of p = record { values = p.store.values; clauses = clauses_of p.store; decisions = vec_items p.decisions }
+state_of p = record { values = p.store.values; clauses = clauses_of p.store; decisions = literals_in (vec_items p.decisions) }
 
 -- whether the decisions clash
 abbrev pub has_clash : State → Bool

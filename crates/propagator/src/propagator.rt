@@ -1,25 +1,27 @@
 ghost use Rattle.std.specs.Prelude.{◌≡◌, ◌≤◌, vec_capacity};
 ghost use Rattle.clause_store.specs.Contents.{clauses_of};
 ghost use Rattle.trail.specs.Parts.{literals_of, values_of};
+ghost use Rattle.propagator.specs.Decisions.{literals_in, heights_in};
 ghost use Rattle.propagator.specs.Standing.{Standing};
 
 use clause_store::ClauseStore;
 use trail::Trail;
 
 mod changes;
+mod decision;
 mod makes;
 mod reads;
 
-// A list of clauses, the decisions that stand over it, the trail of what they reach, how long the trail was before each,
-// and whether there is a clash.
+use decision::Decision;
+
+// A list of clauses, the decisions that stand over it, the trail of what they reach, and whether there is a clash.
 #[derive(Drop)]
 pub struct Propagator {
     store: ClauseStore,
     trail: Trail,
-    decisions: Vec<u32>,
-    heights: Vec<usize>,
+    decisions: Vec<Decision>,
     clashed: bool,
     ghost sized: { store.values ≡ values_of trail },
-    ghost roomy: { (store.values ≤ vec_capacity decisions) × (store.values ≤ vec_capacity heights) },
-    ghost ok: { ∥ Standing store.values (clauses_of store) (literals_of trail) decisions.items heights.items clashed ∥₁ },
+    ghost roomy: { store.values ≤ vec_capacity decisions },
+    ghost ok: { ∥ Standing store.values (clauses_of store) (literals_of trail) (literals_in decisions.items) (heights_in decisions.items) clashed ∥₁ },
 }

@@ -1,7 +1,6 @@
-ghost use Rattle.std.specs.Prelude.{◌≡◌, List, ◌++◌, map, IfOk, IfErr, OnOk};
+ghost use Rattle.std.specs.Prelude.{◌≡◌, List, ◌++◌, map, IfOk, OnOk};
 ghost use Rattle.theory.specs.Numbering.{total};
-ghost use Rattle.clause_store.specs.Fitness.{Fit};
-ghost use Rattle.clause_store.specs.Refusals.{IfUnfit};
+ghost use Rattle.clause_store.specs.Refusals.{FitsExactly};
 ghost use Rattle.calls.specs.declared.call.Exchange.{Exchange};
 ghost use Rattle.calls.specs.Promise.{Promise};
 ghost use Rattle.calls.specs.Runs.{call_of};
@@ -22,12 +21,12 @@ pub fn play<B: ClauseBook, C: Caller>(
     book: &B,
     caller: &mut C,
 ) -> Result<(), OpenError>
-    ensures fit { OnOk result (Fit (total (counts_of points.now)) (B.clauses book.now)) }
-    ensures unfit { IfErr result (λ e. IfUnfit e (Fit (total (counts_of points.now)) (B.clauses book.now) → ⊥)) }
+    ensures fit { FitsExactly (total (counts_of points.now)) (B.clauses book.now) result }
     ensures promise { OnOk result ((xs : List Exchange) → C.heard caller.old xs → (ys : List Exchange) × C.finished caller.new (xs ++ ys) × Promise (points_of points.now) (B.clauses book.now) ys) }
 {
     let mut session = Session::new(heap);
     session.open(heap, points, book)?;
+    // no `for`: the caller sees the session between two calls
     while let Some(call) = caller.next(&session) {
         let exchange = session.perform(call);
         caller.answered(exchange);
@@ -42,8 +41,7 @@ pub fn play_all<B: ClauseBook>(
     book: &B,
     calls: &[Call],
 ) -> Result<Vec<Exchange>, OpenError>
-    ensures fit { OnOk result (Fit (total (counts_of points.now)) (B.clauses book.now)) }
-    ensures unfit { IfErr result (λ e. IfUnfit e (Fit (total (counts_of points.now)) (B.clauses book.now) → ⊥)) }
+    ensures fit { FitsExactly (total (counts_of points.now)) (B.clauses book.now) result }
     ensures calls { IfOk result (λ v. map call_of v.items ≡ calls.now) }
     ensures promise { IfOk result (λ v. Promise (points_of points.now) (B.clauses book.now) v.items) }
 {

@@ -1,19 +1,27 @@
 -- What a value that was found says of the propagator within a session.
-use Rattle.std.proofs.Common.{◌≡◌, ℕ, ◌+◌, ◌<◌, ◌≤◌, true, false, length, Err, vec_items, vec_len, Result, sym, ap, ◌∙◌, arith}
-use Rattle.std.proofs.lemmas.List.{length-map}
-use Rattle.std.proofs.lemmas.Bool.{lt-ltb, le-ltb}
+use Rattle.std.proofs.Common.{◌≡◌, ℕ, zero, suc, ◌+◌, ◌<◌, ◌≤◌, false, List, [], ◌∷◌, map, length, get_or, take, drop, vec_items, vec_len, Result, sym, refl, ap, ◌∙◌, arith}
+use Rattle.std.specs.List.{range_with_len}
+use Rattle.std.proofs.lemmas.List.{length-map, length-take, length-drop, get_or-take, get_or-drop, same_lists}
+use Rattle.std.proofs.lemmas.List.FromFn.{length-map-range_with_len, get_or-map-range_with_len}
+use Rattle.std.proofs.lemmas.Bool.{lt-ltb}
+use Rattle.theory.specs.declared.Mark.{Mark}
 use Rattle.theory.specs.Marks.{clashed, mark}
-use Rattle.theory.specs.Numbering.{count, total, number}
+use Rattle.theory.specs.Numbering.{count, offset, total, number}
 use Rattle.theory.proofs.Numbering.{number_below}
 use Rattle.network.specs.Points.{entry_of}
 use Rattle.network.proofs.Properness.{few_total}
 use Rattle.propagator.specs.States.{state_of as inner_of, has_clash, mark_in}
 use Rattle.calls.specs.declared.refusal.CallRefusal.{CallRefusal}
-use Rattle.calls.specs.declared.refusal.CallRefusal.TheVariants.{NoSuch, Clashed}
 use Rattle.calls.specs.States.{counts_of, is_clashed, mark_at, has_point}
 use Rattle.calls.specs.Replies.{checked}
 use Rattle.session.specs.declared.session.Session.{Session}
-use Rattle.session.specs.Sessions.{state_of, Found, FoundAll}
+use Rattle.session.specs.Sessions.{state_of, Found, marks_of}
+
+-- the values of a point end before or with the last
+part_within : (ks : List ℕ) (p : ℕ) → offset ks p + count ks p ≤ total ks
+part_within [] p = omega arith
+part_within (k ∷ ks) zero = omega arith
+part_within (k ∷ ks) (suc p) = let r = part_within ks p in omega arith
 
 module _ (s : Session) where
   -- the propagator's clash is the session's
@@ -30,15 +38,6 @@ module _ (s : Session) where
 
   -- a point that is not there, a clash, and neither
   module _ {A : Type 0} (p : ℕ) (r : Result A CallRefusal) where
-    pub no_point : vec_len s.points ≤ p → Err NoSuch ≡ checked (has_point (state_of s) p) (is_clashed (state_of s)) r
-    no_point h = let e = le-ltb p (length (state_of s).points) (omega (arith, many_points)) in λ i. checked (sym e i) (is_clashed (state_of s)) r
-
-    pub point_clash : p < vec_len s.points → true ≡ has_clash (inner_of s.inner) → Err Clashed ≡ checked (has_point (state_of s) p) (is_clashed (state_of s)) r
-    point_clash h c =
-        let e = lt-ltb p (length (state_of s).points) (omega (arith, many_points)) in
-        let d = c ∙ sym clash_same in
-        λ i. checked (sym e i) (d i) r
-
     pub point_calm : p < vec_len s.points → false ≡ has_clash (inner_of s.inner) → r ≡ checked (has_point (state_of s) p) (is_clashed (state_of s)) r
     point_calm h c =
         let e = lt-ltb p (length (state_of s).points) (omega (arith, many_points)) in
@@ -59,19 +58,30 @@ module _ (s : Session) where
     pub found_calm : has_clash (inner_of s.inner) ≡ false
     found_calm = sym clash_same ∙ f.calm
 
-  module _ (p first many : ℕ) (f : FoundAll (state_of s) p first many) where
-    pub all_calm : has_clash (inner_of s.inner) ≡ false
-    all_calm = sym clash_same ∙ f.calm
+  module _ (p first many : ℕ) (begins : first ≡ offset (counts_of (state_of s)) p) (counts : many ≡ count (counts_of (state_of s)) p) where
+    -- the values of a point are among those of the session
+    pub values_below : first + many ≤ (inner_of s.inner).values
+    values_below = omega (arith, part_within (counts_of (state_of s)) p, s.sized)
 
-    pub all_below : (v : ℕ) → v < many → first + v < (inner_of s.inner).values
-    all_below v h =
-        let lt : v < count (counts_of (state_of s)) p = omega (arith, f.counts) in
-        omega (arith, f.begins, number_below (counts_of (state_of s)) p v lt, s.sized)
+    -- the marks of all values, where they are read from
+    module _ (ms : List Mark) (e : ms ≡ map (mark_in (inner_of s.inner)) (range_with_len 0 (inner_of s.inner).values)) where
+      many_marks : length ms ≡ (inner_of s.inner).values
+      many_marks = ap length e ∙ length-map-range_with_len (mark_in (inner_of s.inner)) 0 (inner_of s.inner).values
 
-    -- the mark of a value of the point
-    pub all_mark : (v : ℕ) → mark_at (state_of s) p v ≡ mark_in (inner_of s.inner) (first + v)
-    all_mark v = mark_same p v (first + v) (ap (λ k. k + v) f.begins)
+      pub within_marks : first + many ≤ length ms
+      within_marks = omega (arith, values_below, many_marks)
 
-    -- where the values were found, an answer about the point is given as it is
-    pub all_answered : {A : Type 0} (r : Result A CallRefusal) → r ≡ checked (has_point (state_of s) p) (is_clashed (state_of s)) r
-    all_answered r = let e = lt-ltb p (length (state_of s).points) f.there in λ i. checked (sym e i) (sym f.calm i) r
+      mark_read : (k : ℕ) (d : Mark) → k < many → get_or (take many (drop first ms)) k d ≡ mark_at (state_of s) p k
+      mark_read k d h =
+          get_or-take many (drop first ms) k d h ∙ get_or-drop first ms k d ∙ ap (λ xs. get_or xs (first + k) d) e ∙
+          get_or-map-range_with_len (mark_in (inner_of s.inner)) 0 (inner_of s.inner).values (first + k) (first + k) d (omega (arith, values_below)) (omega arith) ∙
+          sym (mark_same p k (first + k) (ap (λ n. n + k) begins))
+
+      -- those of the point's values are a part of them
+      pub marks_part : take many (drop first ms) ≡ marks_of (state_of s) p
+      marks_part =
+          let n : length (take many (drop first ms)) ≡ many = omega (arith, length-take many (drop first ms), length-drop first ms, within_marks) in
+          ap (λ k. take k (drop first ms)) refl ∙
+          same_lists _ _ (n ∙ counts ∙ sym (length-map-range_with_len (mark_at (state_of s) p) 0 (count (counts_of (state_of s)) p)))
+          (λ k d h. mark_read k d (omega (arith, n)) ∙
+          sym (get_or-map-range_with_len (mark_at (state_of s) p) 0 (count (counts_of (state_of s)) p) k k d (omega (arith, n, counts)) (omega arith)))

@@ -1,12 +1,15 @@
 -- What a session stands on, and what opening leaves.
-use Rattle.std.specs.Prelude.{◌≡◌, ℕ, ◌<◌, false, List, [], length, Ok, Err, vec_items, Result}
-use Rattle.theory.specs.Numbering.{count, offset, total, number}
+use Rattle.std.specs.Prelude.{◌≡◌, ℕ, ◌<◌, false, List, [], map, Ok, Err, vec_items, Result}
+use Rattle.theory.specs.declared.Mark.{Mark}
+use Rattle.theory.specs.Numbering.{count, total, number, values}
 use Rattle.network.specs.Points.{Entry, entries, values_of}
 use Rattle.clause_store.specs.declared.error.OpenError.{OpenError}
 use Rattle.clause_store.specs.declared.error.OpenError.TheVariants.{Unfit, OutOfMemory}
 use Rattle.clause_store.specs.Fitness.{Fit}
 use Rattle.propagator.specs.States.{state_of as inner_of}
-use Rattle.calls.specs.States.{State, counts_of, is_clashed}
+use Rattle.calls.specs.declared.refusal.CallRefusal.{CallRefusal}
+use Rattle.calls.specs.States.{State, counts_of, is_clashed, mark_at, has_point}
+use Rattle.calls.specs.Replies.{checked}
 use Rattle.session.specs.declared.session.Session.{Session}
 
 -- the points, the clauses and the standing decisions of a session
@@ -26,9 +29,10 @@ pub record Found (s : State) (p v n : ℕ) : Type 0 where
   pub calm : is_clashed s ≡ false
   pub is : n ≡ number (counts_of s) p v
 
--- the point p is there, its values are `many` from the number `first` on, and there is no clash
-pub record FoundAll (s : State) (p first many : ℕ) : Type 0 where
-  pub there : p < length s.points
-  pub calm : is_clashed s ≡ false
-  pub begins : first ≡ offset (counts_of s) p
-  pub counts : many ≡ count (counts_of s) p
+-- the marks of the values of the point p, in order
+abbrev pub marks_of : State → ℕ → List Mark
+marks_of s p = map (mark_at s p) (values (counts_of s) p)
+
+-- the answer to the question for the marks of a point's values
+abbrev pub marks_reply : State → ℕ → Result (List Mark) CallRefusal
+marks_reply s p = checked (has_point s p) (is_clashed s) (Ok (marks_of s p))

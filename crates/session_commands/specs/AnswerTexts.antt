@@ -1,10 +1,8 @@
 -- What is written for the answers to the calls of a session.
 use Rattle.std.specs.Prelude.{ℕ, Bool, true, false, List, Some, None, Ok, Err, codes, decimal, Option, Result}
-use Rattle.theory.specs.declared.Mark.{Mark as Marked}
-use Rattle.theory.specs.declared.Mark.TheVariants.{In, Out, Open}
+use Rattle.theory.specs.Names.{mark_name}
+use Rattle.calls.specs.Names.{decided_name}
 use Rattle.calls.specs.Refusals.{number_of}
-use Rattle.calls.specs.declared.call.Decided.{Decided}
-use Rattle.calls.specs.declared.call.Decided.TheVariants.{Taken, Clash as Clashing, Already}
 use Rattle.calls.specs.declared.call.Exchange.{Exchange}
 use Rattle.calls.specs.declared.call.Exchange.TheVariants.{Choose, Bar, Withdraw, Mark, Left, Value, Decisions, Clash}
 use Rattle.calls.specs.declared.refusal.CallRefusal.{CallRefusal}
@@ -15,21 +13,9 @@ abbrev pub or_refused : {X : Type 0} → (X → List ℕ) → Result X CallRefus
 or_refused text (Ok x) = text x
 or_refused text (Err refusal) = refused_call_text (number_of refusal)
 
--- how a decision went
-abbrev pub decided_text : Decided → List ℕ
-decided_text Taken = codes "taken"
-decided_text Clashing = codes "clash"
-decided_text Already = codes "already"
-
 -- that a decision was taken back
 abbrev pub done_text : Unit {0} → List ℕ
 done_text _ = codes "done"
-
--- the mark of a value
-abbrev pub mark_text : Marked → List ℕ
-mark_text In = codes "in"
-mark_text Out = codes "out"
-mark_text Open = codes "open"
 
 -- the value of a point, or that it has none
 abbrev pub value_text : Option ℕ → List ℕ
@@ -43,10 +29,10 @@ clash_text false = codes "no"
 
 -- the answer to a call
 abbrev pub answer_text : Exchange → List ℕ
-answer_text (Choose p v reply) = or_refused decided_text reply
-answer_text (Bar p v reply) = or_refused decided_text reply
+answer_text (Choose p v reply) = or_refused decided_name reply
+answer_text (Bar p v reply) = or_refused decided_name reply
 answer_text (Withdraw reply) = or_refused done_text reply
-answer_text (Mark p v reply) = or_refused mark_text reply
+answer_text (Mark p v reply) = or_refused mark_name reply
 answer_text (Left p reply) = or_refused decimal reply
 answer_text (Value p reply) = or_refused value_text reply
 answer_text (Decisions count) = decimal count

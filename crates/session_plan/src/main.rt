@@ -4,7 +4,7 @@
 mod options;
 mod terminal;
 
-use anyhow::anyhow;
+use anyhow::{Result, anyhow};
 use computed::ComputedBook;
 use netfile::ReadError;
 use network::Network;
@@ -15,7 +15,7 @@ use terminal::Terminal;
 use theory::Encoding;
 
 // Plays what is asked on standard input over a network's clauses.
-fn play<'a>(rt: &'a HostRuntime, network: &'a Network, encoding: Encoding) -> anyhow::Result<()> {
+fn play<'a>(rt: &'a HostRuntime, network: &'a Network, encoding: Encoding) -> Result<()> {
     let book = ComputedBook::new(network, encoding);
     let mut terminal = Terminal::new(rt, network)?;
     match runs::play(rt.alloc(), network.points(), &book, &mut terminal) {
@@ -30,7 +30,8 @@ fn play<'a>(rt: &'a HostRuntime, network: &'a Network, encoding: Encoding) -> an
     }
 }
 
-fn run(rt: &HostRuntime) -> anyhow::Result<()> {
+fn run(rt: &HostRuntime) -> Result<()> {
+    // as in plan: a shared function would be handed all that is done here as a closure, and has no contract
     let options = Options::read(rt)?;
     let bytes = fs::read(rt, &options.file)?;
     match netfile::read(rt.alloc(), &bytes) {
@@ -43,6 +44,6 @@ fn run(rt: &HostRuntime) -> anyhow::Result<()> {
     }
 }
 
-fn main(rt: HostRuntime) -> anyhow::Result<()> {
+fn main(rt: HostRuntime) -> Result<()> {
     run(&rt)
 }

@@ -1,12 +1,11 @@
-ghost use Rattle.std.specs.Prelude.{◌≡◌};
-
+use anyhow::Result;
 use calls::{Call, Exchange};
-use computed::ComputedBook;
 use network::Network;
 use runs::Caller;
 use session::Session;
 use session_commands::command::Command;
 use session_commands::{answers, command, text};
+use std::io;
 use std::io::{BufRead, BufReader, Split, Stdin, Write};
 
 // Commands from standard input and answers to standard output. What it had and heard is not in a contract's reach.
@@ -22,7 +21,7 @@ pub struct Terminal<'a> {
 
 impl<'a> Terminal<'a> {
     // The terminal of a program that has read a network.
-    pub(crate) fn new(rt: &'a HostRuntime, network: &'a Network) -> anyhow::Result<Terminal<'a>> {
+    pub(crate) fn new(rt: &'a HostRuntime, network: &'a Network) -> Result<Terminal<'a>> {
         Ok(Terminal {
             rt,
             network,
@@ -33,46 +32,45 @@ impl<'a> Terminal<'a> {
     }
 
     // What went wrong, if anything did.
-    pub(crate) fn finish(self) -> anyhow::Result<()> {
+    pub(crate) fn finish(self) -> Result<()> {
         match self.failed {
             Some(error) => Err(error),
             None => Ok(()),
         }
     }
 
-    // Answers a command that is no call of the session.
-    fn answer(&self, session: &Session, command: Command) -> anyhow::Result<()> {
-        let rt = self.rt;
-        let heap = rt.alloc();
-        match command {
-            Command::Ask(_) | Command::Unknown => rt.println("what?")?,
-            Command::Page => rt.stdout().write_all(&page::page(heap, session)?)?,
-            Command::Number(n) => rt.println(text::place(heap, self.network.points().place(n))?)?,
-            Command::Clauses(encoding) => {
-                let book = ComputedBook::new(self.network, encoding);
-                rt.print(text::clauses(heap, &book)?)?;
-            }
-            Command::Half(table) => match computed::half_scores(self.network, table) {
-                Ok(scores) => rt.println(text::half(heap, scores)?)?,
-                Err(refusal) => rt.println(text::refused_call(heap, refusal.number())?)?,
-            },
-        }
+    // Answers the question for the halves of a table.
+    fn answer_half(&self, table: usize) -> Result<()> {
+        let heap = self.rt.alloc();
+        let answer = match computed::half_scores(self.network, table) {
+            Ok(scores) => text::half(heap, scores)?,
+            Err(refusal) => text::refused_call(heap, refusal.number())?,
+        };
+        self.rt.println(answer)?;
         Ok(())
     }
 
-    // Reads one line: the call that it makes, or nothing where it was answered here.
-    fn read(&mut self, session: &Session, line: &[u8]) -> Option<Call>
-        ensures { self.new.left ≡ self.old.left }
-    {
-        match command::parse(line) {
-            Command::Ask(call) => Some(call),
-            other => {
-                if let Err(error) = self.answer(session, other) {
-                    self.failed = Some(error);
-                }
-                None
+    // The call that a line makes, or nothing where the line was answered here.
+    fn hear(&self, session: &Session, line: io::Result<Vec<u8>>) -> Result<Option<Call>> {
+        let rt = self.rt;
+        let heap = rt.alloc();
+        match command::parse(&line?) {
+            Some(Command::Ask(call)) => return Ok(Some(call)),
+            Some(Command::Page) => rt.stdout().write_all(&page::page(heap, session)?)?,
+            Some(Command::Half(table)) => self.answer_half(table)?,
+            Some(Command::Plan(command)) => {
+                rt.print(commands::answers::answer(heap, self.network, command)?)?;
             }
+            None => rt.println("what?")?,
         }
+        Ok(None)
+    }
+
+    // Writes the answer to a call.
+    fn tell(&self, exchange: Exchange) -> Result<()> {
+        self.rt
+            .println(answers::answer(self.rt.alloc(), exchange)?)?;
+        Ok(())
     }
 }
 
@@ -86,29 +84,22 @@ impl<'a> Caller for Terminal<'a> {
     ghost left = { λ t. t.left };
 
     fn next(&mut self, session: &Session) -> Option<Call> {
+        // no `for`: a line that is answered here gives no call, and the next is read
         while self.left > 0 && self.failed.is_none() {
             self.left -= 1;
-            match self.lines.next() {
-                None => return None,
-                Some(Err(error)) => self.failed = Some(error.into()),
-                Some(Ok(line)) => {
-                    if let Some(call) = self.read(session, &line) {
-                        return Some(call);
-                    }
-                }
+            let line = self.lines.next()?;
+            match self.hear(session, line) {
+                Ok(Some(call)) => return Some(call),
+                Ok(None) => {}
+                Err(error) => self.failed = Some(error),
             }
         }
         None
     }
 
     fn answered(&mut self, exchange: Exchange) {
-        match answers::answer(self.rt.alloc(), exchange) {
-            Ok(text) => {
-                if let Err(error) = self.rt.println(text) {
-                    self.failed = Some(error.into());
-                }
-            }
-            Err(error) => self.failed = Some(error.into()),
+        if let Err(error) = self.tell(exchange) {
+            self.failed = Some(error);
         }
     }
 }

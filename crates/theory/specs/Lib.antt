@@ -8,3 +8,4 @@ pub mod Reached
 pub mod Marks
 pub mod Families
 pub mod Laws
+pub mod Names

@@ -3,10 +3,13 @@
 #![tactic(auto)]
 
 pub mod models;
+mod names;
 pub mod propagation;
 
+pub use names::UnknownEncoding;
+
 // A way to write a network as clauses.
-#[derive(Clone, Copy)]
+#[derive(Clone, Copy, Debug, PartialEq, Eq)]
 pub enum Encoding {
     Direct,
     Support,
@@ -14,14 +17,14 @@ pub enum Encoding {
 }
 
 // An end of a table: its lower-numbered point or its higher-numbered one.
-#[derive(Clone, Copy)]
+#[derive(Clone, Copy, Debug, PartialEq, Eq)]
 pub enum Side {
     Lower,
     Higher,
 }
 
 // What is known of a value under decisions.
-#[derive(Clone, Copy)]
+#[derive(Clone, Copy, Debug, PartialEq, Eq)]
 pub enum Mark {
     In,
     Out,

@@ -1,19 +1,20 @@
 -- A trail's own invariant, in hand.
-use Rattle.std.proofs.Common.{◌≡◌, ℕ, ◌*◌, ◌/◌, ◌<◌, ◌≤◌, List, [], ◌∷◌, ◌++◌, length, get_or, vec_items, vec_capacity, sym, refl, ap, ◌∙◌, subst, inl, arith}
+use Rattle.std.proofs.Common.{◌≡◌, ℕ, ◌*◌, ◌/◌, ◌<◌, ◌≤◌, List, [], ◌∷◌, ◌++◌, map, length, get_or, vec_items, vec_capacity, sym, refl, ap, ◌∙◌, subst, inl, arith}
 use mathlib.Core.Logic.{∥∥₁_elim}
 use denote.Struct.Props.{props}
-use Rattle.std.proofs.lemmas.List.{get_or_read}
+use Rattle.std.specs.List.{range_with_len}
+use Rattle.std.proofs.lemmas.List.{get_or_read, get_or_default, same_lists}
+use Rattle.std.proofs.lemmas.List.FromFn.{length-map-range_with_len, get_or-map-range_with_len}
 use Rattle.theory.specs.declared.Mark.{Mark}
 use Rattle.theory.specs.declared.Mark.TheVariants.{Open}
 use Rattle.theory.specs.Lists.{◌∈◌}
 use Rattle.theory.specs.Literals.{is_in, opposite}
 use Rattle.theory.specs.Marks.{mark_of}
-use Rattle.theory.proofs.Members.{in_right}
 use Rattle.trail.specs.declared.trail.Trail.{Trail}
 use Rattle.trail.specs.Marked.{Marked, Marked-prop, code}
 use Rattle.trail.specs.Parts.{literals_of, values_of}
 use Rattle.trail.proofs.Truths.{open_mark}
-use Rattle.trail.proofs.Marking.{below_in, consistent, room_left}
+use Rattle.trail.proofs.Marking.{below_in, consistent, room_left, mark_is}
 
 pub marked_of : (s : Trail) → Marked (vec_capacity s.literals) (literals_of s) (vec_items s.marks)
 marked_of s = ∥∥₁_elim s.ok (Marked-prop (hlevel props) (hlevel props) (hlevel props) (hlevel props) (hlevel props) (hlevel props)) (λ k. k)
@@ -21,11 +22,6 @@ marked_of s = ∥∥₁_elim s.ok (Marked-prop (hlevel props) (hlevel props) (hl
 -- the mark that was read is the one at its place
 pub read_mark : (ms : List Mark) (i : ℕ) (x m : Mark) → i < length ms → x ≡ get_or ms i x → x ≡ m → code (get_or ms i Open) ≡ code m
 read_mark ms i x m h e q = ap code (sym (get_or_read ms i x h e Open) ∙ q)
-
-pub last_below : (s : Trail) (t : List ℕ) (x : ℕ) → literals_of s ≡ t ++ x ∷ [] → x < 2 * values_of s
-last_below s t x e =
-    let k = subst (λ u. Marked (vec_capacity s.literals) u (vec_items s.marks)) e (marked_of s) in
-    omega (arith, s.marks.ok.0, below_in _ _ _ k x (in_right t (x ∷ []) x (inl refl)))
 
 -- a trail has at most a literal for each value
 pub trail_short : (s : Trail) → length (literals_of s) ≤ values_of s
@@ -45,3 +41,12 @@ trail_below s k h = omega (arith, s.marks.ok.0, (marked_of s).below k h)
 -- no literal of a trail stands there with its opposite
 pub trail_apart : (s : Trail) (l : ℕ) → l ∈ literals_of s → opposite l ∈ literals_of s → ⊥
 trail_apart s = consistent _ _ _ (marked_of s)
+
+-- the marks are those of the values, in order
+pub all_marks : (s : Trail) → vec_items s.marks ≡ map (mark_of (literals_of s)) (range_with_len 0 (values_of s))
+all_marks s =
+    let ms = vec_items s.marks in
+    let n = s.marks.ok.0 in
+    same_lists ms _ (sym n ∙ sym (length-map-range_with_len (mark_of (literals_of s)) 0 (values_of s)))
+    (λ i d h. get_or_default ms i d Open h ∙ mark_is _ _ _ (marked_of s) i ∙
+    sym (get_or-map-range_with_len (mark_of (literals_of s)) 0 (values_of s) i i d (omega (arith, n)) (omega arith)))

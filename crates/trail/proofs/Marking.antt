@@ -1,14 +1,14 @@
 -- The marks after a literal is added or taken off.
-use Rattle.std.proofs.Common.{◌≡◌, ℕ, zero, suc, ◌+◌, ◌*◌, ◌/◌, ◌%◌, ◌<◌, ◌≤◌, true, ◌≢◌, List, [], ◌∷◌, ◌++◌, length, get_or, set, replicate, sym, refl, ap, ◌∙◌, subst, inl, ⊎_elim, arith, below_more}
-use Rattle.std.proofs.lemmas.Bool.{cases_eq}
-use Rattle.std.proofs.lemmas.List.{length_push, length-set, get_or_push, get_or_append_left, get_or-set_same, get_or-set_other, length-replicate}
+use Rattle.std.proofs.Common.{◌≡◌, ℕ, zero, suc, ◌+◌, ◌-◌, ◌*◌, ◌/◌, ◌%◌, ◌<◌, ◌≤◌, true, false, eqb, ◌≢◌, List, [], ◌∷◌, ◌++◌, Some, None, Option, Bool, length, get_or, set, replicate, min, sym, refl, ap, ◌∙◌, subst, inl, ⊎_elim, arith, below_more}
+use Rattle.std.proofs.Math.Seq.{get_or-append_seam}
+use Rattle.std.proofs.lemmas.Bool.{cases_eq, cases_lt, ne_eqb, eq-eqb}
+use Rattle.std.proofs.lemmas.List.{length_push, length-append, length-set, get_or_push, get_or_append_left, get_or-append_right, get_or-set_same, get_or-set_other, length-replicate}
 use Rattle.theory.specs.declared.Mark.{Mark}
 use Rattle.theory.specs.declared.Mark.TheVariants.{In, Out, Open}
 use Rattle.theory.specs.Lists.{◌∈◌, has}
 use Rattle.theory.specs.Literals.{opposite, is_in, is_out}
 use Rattle.theory.specs.Marks.{mark_of}
 use Rattle.theory.proofs.Members.{in_from_has, has_from_in, in_left, in_right, in_append, at_in}
-use Rattle.trail.specs.declared.truth.Truth.TheVariants as truth
 use Rattle.trail.specs.Marked.{Marked, code, opens}
 use Rattle.trail.specs.Truths.{truth_of}
 use Rattle.trail.proofs.Opposites.{opposite_half}
@@ -49,6 +49,12 @@ pub opens_all : (n : ℕ) → opens (replicate n Open) ≡ n
 opens_all zero = refl
 opens_all (suc n) = let r = opens_all n in omega arith
 
+-- whether a literal is true where its value has the mark
+abbrev pub said_by : Mark → ℕ → Option Bool
+said_by Open l = None
+said_by In l = Some (eqb (l % 2) 0)
+said_by Out l = Some (eqb (l % 2) 1)
+
 module _ (cap : ℕ) (t : List ℕ) (ms : List Mark) (k : Marked cap t ms) where
   pub told_in : (l : ℕ) → l ∈ t → code (get_or ms (l / 2) Open) ≡ 1 + l % 2
   told_in l h = let r = at_in t l h in subst (λ x. code (get_or ms (x / 2) Open) ≡ 1 + x % 2) r.2 (k.told r.0 r.1)
@@ -63,17 +69,25 @@ module _ (cap : ℕ) (t : List ℕ) (ms : List Mark) (k : Marked cap t ms) where
   pub consistent : (l : ℕ) → l ∈ t → opposite l ∈ t → ⊥
   consistent l h g = omega (arith, told_in l h, told_opposite l g)
 
-  pub truth_open : (l : ℕ) → code (get_or ms (l / 2) Open) ≡ 0 → truth_of t l ≡ truth.Open
+  truth_open : (l : ℕ) → code (get_or ms (l / 2) Open) ≡ 0 → truth_of t l ≡ None
   truth_open l e = open_when t l (λ h. omega (arith, told_in l h)) (λ h. omega (arith, told_opposite l h))
 
-  pub truth_true : (l : ℕ) → code (get_or ms (l / 2) Open) ≡ 1 + l % 2 → truth_of t l ≡ truth.True
+  truth_true : (l : ℕ) → code (get_or ms (l / 2) Open) ≡ 1 + l % 2 → truth_of t l ≡ Some true
   truth_true l e = true_when t l (in_from_has t l (k.heard l e))
 
   heard_opposite : (l : ℕ) → code (get_or ms (l / 2) Open) ≡ 1 + opposite l % 2 → opposite l ∈ t
   heard_opposite l e = in_from_has t (opposite l) (k.heard (opposite l) (subst (λ v. code (get_or ms v Open) ≡ 1 + opposite l % 2) (sym (opposite_half l)) e))
 
-  pub truth_false : (l : ℕ) → code (get_or ms (l / 2) Open) ≡ 1 + opposite l % 2 → truth_of t l ≡ truth.False
+  truth_false : (l : ℕ) → code (get_or ms (l / 2) Open) ≡ 1 + opposite l % 2 → truth_of t l ≡ Some false
   truth_false l e = false_when t l (λ h. omega (arith, told_in l h)) (heard_opposite l e)
+
+  -- what a mark says of a literal of its value
+  pub truth_is : (l : ℕ) (m : Mark) → code (get_or ms (l / 2) Open) ≡ code m → truth_of t l ≡ said_by m l
+  truth_is l Open e = truth_open l e
+  truth_is l In e =
+      ⊎_elim (λ z. rw (eq-eqb (l % 2) 0 z) (truth_true l (omega (arith, e)))) (λ z. rw (ne_eqb (l % 2) 0 z) (truth_false l (omega (arith, e)))) (cases_eq (l % 2) 0)
+  truth_is l Out e =
+      ⊎_elim (λ z. rw (eq-eqb (l % 2) 1 z) (truth_true l (omega (arith, e)))) (λ z. rw (ne_eqb (l % 2) 1 z) (truth_false l (omega (arith, e)))) (cases_eq (l % 2) 1)
 
   -- the mark of a value by the literals is the one that it has
   pub mark_is : (v : ℕ) → get_or ms v Open ≡ mark_of t v
@@ -93,7 +107,7 @@ module _ (cap : ℕ) (t : List ℕ) (ms : List Mark) (k : Marked cap t ms) where
           let b = has_not t (is_out v) (λ h. omega (arith, told_in (is_out v) h, here (is_out v) Open (omega arith) e)) in
           rw (a, b)
 
-  open_code : (l : ℕ) → truth_of t l ≡ truth.Open → code (get_or ms (l / 2) Open) ≡ 0
+  open_code : (l : ℕ) → truth_of t l ≡ None → code (get_or ms (l / 2) Open) ≡ 0
   open_code l e =
       let f = neither_held t l e in
       ⊎_elim (λ z. z)
@@ -101,13 +115,13 @@ module _ (cap : ℕ) (t : List ℕ) (ms : List Mark) (k : Marked cap t ms) where
       (λ y. absurd (f.1 (heard_opposite l (omega (arith, code_small (get_or ms (l / 2) Open)))))) (cases_eq (code (get_or ms (l / 2) Open)) (1 + l % 2)))
       (cases_eq (code (get_or ms (l / 2) Open)) 0)
 
-  pub room_left : (l : ℕ) → l < 2 * length ms → truth_of t l ≡ truth.Open → length t < length ms
+  pub room_left : (l : ℕ) → l < 2 * length ms → truth_of t l ≡ None → length t < length ms
   room_left l h e = omega (arith, opens_some ms (l / 2) (omega arith) (open_code l e), k.room)
 
-  pub room_for : (l : ℕ) → l < 2 * length ms → truth_of t l ≡ truth.Open → length t < cap
+  pub room_for : (l : ℕ) → l < 2 * length ms → truth_of t l ≡ None → length t < cap
   room_for l h e = omega (arith, opens_some ms (l / 2) (omega arith) (open_code l e), k.room, k.space)
 
-  pub marked_push : (l : ℕ) (m : Mark) → l < 2 * length ms → truth_of t l ≡ truth.Open → code m ≡ 1 + l % 2 → Marked cap (t ++ l ∷ []) (set ms (l / 2) m)
+  pub marked_push : (l : ℕ) (m : Mark) → l < 2 * length ms → truth_of t l ≡ None → code m ≡ 1 + l % 2 → Marked cap (t ++ l ∷ []) (set ms (l / 2) m)
   marked_push l m h e c =
       record {
         space = rw length-set k.space;
@@ -154,45 +168,62 @@ module _ (cap : ℕ) (t : List ℕ) (ms : List Mark) (k : Marked cap t ms) where
           (λ ne. k.apart i j lt (omega arith) (ap (λ x. x / 2) (sym (early i (omega arith))) ∙ d ∙ ap (λ x. x / 2) (early j (omega arith))))
           (cases_eq j (length t))
 
-module _ (cap : ℕ) (t : List ℕ) (x : ℕ) (ms : List Mark) (k : Marked cap (t ++ x ∷ []) ms) where
-  pub marked_pop : Marked cap t (set ms (x / 2) Open)
-  marked_pop =
+module _ (cap : ℕ) (a : List ℕ) (x : ℕ) (b : List ℕ) (ms : List Mark) (k : Marked cap (a ++ x ∷ b) ms) where
+  -- the literal x taken out, its value is open
+  pub marked_without : Marked cap (a ++ b) (set ms (x / 2) Open)
+  marked_without =
       record {
         space = rw length-set k.space;
-        below = λ j lt. rw length-set (subst (λ y. y < 2 * length ms) (early j lt) (k.below j (omega (arith, length_push t x))));
-        told = λ j lt. rw (get_or-set_other ms (x / 2) (get_or t j 0 / 2) Open Open (other j lt)) (subst (λ y. code (get_or ms (y / 2) Open) ≡ 1 + y % 2) (early j lt) (k.told j (omega (arith, length_push t x))));
-        heard = λ y z. has_from_in t y (heard y z);
-        apart = λ i j lt h d. k.apart i j lt (omega (arith, length_push t x)) (ap (λ v. v / 2) (early i (omega arith)) ∙ d ∙ ap (λ v. v / 2) (sym (early j h)));
-        room = omega (arith, length_push t x, length-set ms (x / 2) Open, opens_unset ms (x / 2) half (λ z. omega (arith, said)), k.room);
+        below = λ j lt. let w = was j lt in rw length-set (subst (λ y. y < 2 * length ms) w.1 (k.below w.0 (omega (arith, w.2, long, short))));
+        told = λ j lt. let w = was j lt in rw (get_or-set_other ms (x / 2) (get_or (a ++ b) j 0 / 2) Open Open (other j lt)) (subst (λ y. code (get_or ms (y / 2) Open) ≡ 1 + y % 2) w.1 (k.told w.0 (omega (arith, w.2, long, short))));
+        heard = λ y z. has_from_in (a ++ b) y (heard y z);
+        apart = λ i j lt h d. let v = was i (omega arith) in let w = was j h in
+            k.apart v.0 w.0 (omega (arith, v.2, w.2)) (omega (arith, w.2, long, short)) (ap (λ y. y / 2) v.1 ∙ d ∙ ap (λ y. y / 2) (sym w.1));
+        room = omega (arith, long, short, length-set ms (x / 2) Open, opens_unset ms (x / 2) half (λ z. omega (arith, said)), k.room);
       }
     where
-      last : get_or (t ++ x ∷ []) (length t) 0 ≡ x
-      last = get_or_push t x 0 (length t) refl
+      long : length (a ++ x ∷ b) ≡ length a + suc (length b)
+      long = length-append a (x ∷ b)
 
-      early : (j : ℕ) → j < length t → get_or (t ++ x ∷ []) j 0 ≡ get_or t j 0
-      early j lt = get_or_append_left t (x ∷ []) 0 j lt
+      short : length (a ++ b) ≡ length a + length b
+      short = length-append a b
+
+      seam : get_or (a ++ x ∷ b) (length a) 0 ≡ x
+      seam = get_or-append_seam a x b 0
+
+      -- the place where the literal at j was
+      was : (j : ℕ) → j < length (a ++ b) → (i : ℕ) × (get_or (a ++ x ∷ b) i 0 ≡ get_or (a ++ b) j 0) × (i ≡ j + min 1 (j + 1 - length a))
+      was j lt =
+          ⊎_elim (λ h. (j, get_or_append_left a (x ∷ b) 0 j h ∙ sym (get_or_append_left a b 0 j h), omega arith))
+          (λ h. let e : j + 1 - length a ≡ suc (j - length a) = omega arith in
+          (j + 1, get_or-append_right a (x ∷ b) (length a) (j + 1) 0 refl (omega arith) ∙ ap (λ n. get_or (x ∷ b) n 0) e ∙ sym (get_or-append_right a b (length a) j 0 refl h), omega arith))
+          (cases_lt j (length a))
 
       said : code (get_or ms (x / 2) Open) ≡ 1 + x % 2
-      said = told_in cap (t ++ x ∷ []) ms k x (in_right t (x ∷ []) x (inl refl))
+      said = told_in cap (a ++ x ∷ b) ms k x (in_right a (x ∷ b) x (inl refl))
 
       half : x / 2 < length ms
-      half = omega (arith, below_in cap (t ++ x ∷ []) ms k x (in_right t (x ∷ []) x (inl refl)))
+      half = omega (arith, below_in cap (a ++ x ∷ b) ms k x (in_right a (x ∷ b) x (inl refl)))
 
-      other : (j : ℕ) → j < length t → get_or t j 0 / 2 ≢ x / 2
-      other j lt z = k.apart j (length t) lt (omega (arith, length_push t x)) (ap (λ v. v / 2) (early j lt) ∙ z ∙ ap (λ v. v / 2) (sym last))
+      other : (j : ℕ) → j < length (a ++ b) → get_or (a ++ b) j 0 / 2 ≢ x / 2
+      other j lt z =
+          let w = was j lt in
+          let e : get_or (a ++ x ∷ b) w.0 0 / 2 ≡ get_or (a ++ x ∷ b) (length a) 0 / 2 = ap (λ y. y / 2) w.1 ∙ z ∙ ap (λ y. y / 2) (sym seam) in
+          ⊎_elim (λ h. k.apart w.0 (length a) (omega (arith, w.2)) (omega (arith, long)) e)
+          (λ h. k.apart (length a) w.0 (omega (arith, w.2)) (omega (arith, w.2, long, short)) (sym e)) (cases_lt j (length a))
 
-      heard : (y : ℕ) → code (get_or (set ms (x / 2) Open) (y / 2) Open) ≡ 1 + y % 2 → y ∈ t
+      heard : (y : ℕ) → code (get_or (set ms (x / 2) Open) (y / 2) Open) ≡ 1 + y % 2 → y ∈ (a ++ b)
       heard y z = ⊎_elim same else' (cases_eq (y / 2) (x / 2))
         where
-          same : y / 2 ≡ x / 2 → y ∈ t
+          same : y / 2 ≡ x / 2 → y ∈ (a ++ b)
           same d =
               let q : code Open ≡ 1 + y % 2 = ap code (sym (get_or-set_same ms (x / 2) Open Open half)) ∙ ap (λ v. code (get_or (set ms (x / 2) Open) v Open)) (sym d) ∙ z in
               absurd (omega arith)
 
-          else' : (y / 2 ≡ x / 2 → ⊥) → y ∈ t
+          else' : (y / 2 ≡ x / 2 → ⊥) → y ∈ (a ++ b)
           else' d =
-              let h = in_from_has (t ++ x ∷ []) y (k.heard y (ap code (sym (get_or-set_other ms (x / 2) (y / 2) Open Open d)) ∙ z)) in
-              ⊎_elim (λ i. i) (λ i. ⊎_elim (λ e. absurd (d (ap (λ v. v / 2) e))) (λ n. absurd n) i) (in_append t (x ∷ []) y h)
+              let h = in_from_has (a ++ x ∷ b) y (k.heard y (ap code (sym (get_or-set_other ms (x / 2) (y / 2) Open Open d)) ∙ z)) in
+              ⊎_elim (in_left a b y) (λ i. ⊎_elim (λ e. absurd (d (ap (λ v. v / 2) e))) (in_right a b y) i) (in_append a (x ∷ b) y h)
 
 pub marked_none : (cap n : ℕ) → n ≤ cap → Marked cap [] (replicate n Open)
 marked_none cap n h =

@@ -3,8 +3,6 @@
 
 mod literals;
 mod trail;
-mod truth;
 
 pub use literals::opposite;
 pub use trail::Trail;
-pub use truth::Truth;

@@ -15,6 +15,7 @@ pub fn opposite(literal: u32) -> u32
     }
 }
 
+// A function and no `From`: a literal is a number of the clauses' form and has no type of its own.
 // The mark of the value of a literal that is held.
 pub(crate) fn mark_by(literal: u32) -> Mark
     ensures { code result ≡ 1 + literal % 2 }

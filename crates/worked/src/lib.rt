@@ -11,6 +11,7 @@ mod tests {
     use books::{StoredBook, WordsRefusal};
     use calls::{Call, CallRefusal, Decided, Exchange};
     use clause_store::OpenError;
+    use commands::text;
     use computed::ComputedBook;
     use netfile::ReadError;
     use network::Network;
@@ -25,29 +26,32 @@ mod tests {
     // Its table with its pairs, and its end.
     const TABLE: [u8; 12] = [3, 0, 1, 4, 0, 0, 4, 1, 1, 5, 0, 2];
 
-    // The number and the place with which a file is refused.
-    fn refusal(rt: &HostRuntime, front: &[u8], back: &[u8]) -> Result<(u8, usize), Fail> {
+    // The number and the place with which a file is refused, if it is.
+    fn refusal(rt: &HostRuntime, front: &[u8], back: &[u8]) -> Result<Option<(u8, usize)>, Fail> {
         let mut file = front.to_vec(rt.alloc())?;
         file.extend_from_slice(back)?;
         match netfile::read(rt.alloc(), &file) {
-            Ok(_) => Ok((0, 0)),
-            Err(ReadError::Refused(f)) => Ok((f.refusal.number(), f.place)),
+            Ok(_) => Ok(None),
+            Err(ReadError::Refused(f)) => Ok(Some((f.refusal.number(), f.place))),
             Err(ReadError::OutOfMemory) => Err(Fail::new("out of memory")),
         }
     }
 
     #[test]
     fn accepted_and_refused(rt: HostRuntime) -> Result<(), Fail> {
-        assert_eq!(rt; refusal(&rt, &POINTS, &TABLE)?, (0, 0));
-        assert_eq!(rt; refusal(&rt, &POINTS[0..14], &TABLE)?, (6, 14));
-        assert_eq!(rt; refusal(&rt, &POINTS, &[3, 0, 2])?, (7, 24));
+        assert_eq!(rt; refusal(&rt, &POINTS, &TABLE)?, None);
+        assert_eq!(rt; refusal(&rt, &POINTS[0..14], &TABLE)?, Some((6, 14)));
+        assert_eq!(rt; refusal(&rt, &POINTS, &[3, 0, 2])?, Some((7, 24)));
         assert_eq!(rt;
             refusal(&rt, &POINTS, &[3, 0, 1, 4, 0, 0, 4, 0, 0])?,
-            (9, 30)
+            Some((9, 30))
         );
-        assert_eq!(rt; refusal(&rt, &POINTS, &[3, 0, 1, 5, 0, 0, 0])?, (11, 30));
-        assert_eq!(rt; refusal(&rt, &POINTS, &[9])?, (2, 24));
-        assert_eq!(rt; refusal(&rt, &POINTS, &[3, 0])?, (1, 26));
+        assert_eq!(rt;
+            refusal(&rt, &POINTS, &[3, 0, 1, 5, 0, 0, 0])?,
+            Some((11, 30))
+        );
+        assert_eq!(rt; refusal(&rt, &POINTS, &[9])?, Some((2, 24)));
+        assert_eq!(rt; refusal(&rt, &POINTS, &[3, 0])?, Some((1, 26)));
         Ok(())
     }
 
@@ -78,15 +82,6 @@ mod tests {
         Ok(network)
     }
 
-    // How many words writing takes, or the number that is needed where there are too few.
-    fn words(network: &Network, encoding: Encoding, out: &mut [u32]) -> Result<usize, usize> {
-        match writers::write(network, encoding, out) {
-            Ok(n) => Ok(n),
-            Err(WordsRefusal::TooFewWords(n)) => Err(n),
-            Err(WordsRefusal::NotStored) => Err(0),
-        }
-    }
-
     #[test]
     fn words_of_the_encodings(rt: HostRuntime) -> Result<(), Fail> {
         let mut file = POINTS.to_vec(rt.alloc())?;
@@ -94,17 +89,29 @@ mod tests {
         let mut network = Network::start(rt.alloc())?;
         assert!(rt; netfile::load(rt.alloc(), &mut network, &file).is_ok());
         let mut few = [7; 33];
-        assert_eq!(rt; words(&network, Encoding::Support, &mut few), Err(34));
+        assert_eq!(rt;
+            writers::write(&network, Encoding::Support, &mut few),
+            Err(WordsRefusal::TooFewWords(34))
+        );
         assert_eq!(rt; few, [7; 33]);
         let mut out = [7; 36];
-        assert_eq!(rt; words(&network, Encoding::Support, &mut out), Ok(34));
+        assert_eq!(rt;
+            writers::write(&network, Encoding::Support, &mut out),
+            Ok(34)
+        );
         assert_eq!(rt;
             out[0..13].to_vec(rt.alloc())?,
             [11, 15, 17, 19, 21, 23, 25, 27, 29, 30, 32, 34, 0].to_vec(rt.alloc())?
         );
         assert_eq!(rt; out[34], 7);
-        assert_eq!(rt; words(&network, Encoding::Direct, &mut out), Ok(32));
-        assert_eq!(rt; words(&network, Encoding::MinimalSupport, &mut out), Ok(28));
+        assert_eq!(rt;
+            writers::write(&network, Encoding::Direct, &mut out),
+            Ok(32)
+        );
+        assert_eq!(rt;
+            writers::write(&network, Encoding::MinimalSupport, &mut out),
+            Ok(28)
+        );
         Ok(())
     }
 
@@ -114,11 +121,8 @@ mod tests {
         table: usize,
         low: &mut [u32],
         high: &mut [u32],
-    ) -> (usize, usize) {
-        match writers::write_halves(network, table, low, high) {
-            Ok(sizes) => sizes,
-            Err(refusal) => (0, refusal.number() as usize),
-        }
+    ) -> Result<(usize, usize), u8> {
+        writers::write_halves(network, table, low, high).map_err(|refusal| refusal.number())
     }
 
     #[test]
@@ -126,14 +130,14 @@ mod tests {
         let network = worked(&rt)?;
         let mut low = [7; 10];
         let mut high = [7; 8];
-        assert_eq!(rt; halves(&network, 1, &mut low, &mut high), (0, 12));
+        assert_eq!(rt; halves(&network, 1, &mut low, &mut high), Err(12));
         let mut few = [7; 8];
-        assert_eq!(rt; halves(&network, 0, &mut few, &mut high), (0, 18));
+        assert_eq!(rt; halves(&network, 0, &mut few, &mut high), Err(18));
         let mut fewer = [7; 6];
-        assert_eq!(rt; halves(&network, 0, &mut low, &mut fewer), (0, 18));
+        assert_eq!(rt; halves(&network, 0, &mut low, &mut fewer), Err(18));
         assert_eq!(rt; low, [7; 10]);
         assert_eq!(rt; high, [7; 8]);
-        assert_eq!(rt; halves(&network, 0, &mut low, &mut high), (9, 7));
+        assert_eq!(rt; halves(&network, 0, &mut low, &mut high), Ok((9, 7)));
         assert_eq!(rt; low, [3, 6, 8, 9, 1, 6, 3, 8, 5, 7]);
         assert_eq!(rt; high, [2, 5, 7, 7, 0, 9, 2, 7]);
         match books::better(&low, &high) {
@@ -158,6 +162,18 @@ mod tests {
             let _ = session.perform(*call);
         }
         Ok(page::page(rt.alloc(), &session)?)
+    }
+
+    #[test]
+    fn a_list_and_its_book_have_one_text(rt: HostRuntime) -> Result<(), Fail> {
+        let network = worked(&rt)?;
+        let lists = encodings::encode(rt.alloc(), &network, Encoding::Direct)?;
+        let book = ComputedBook::new(&network, Encoding::Direct);
+        assert_eq!(rt;
+            text::clauses(rt.alloc(), &lists.as_slice())?,
+            text::clauses(rt.alloc(), &book)?
+        );
+        Ok(())
     }
 
     #[test]
@@ -199,11 +215,16 @@ mod tests {
         let Ok(log) = runs::play_all(rt.alloc(), network.points(), &book, &calls) else {
             return Err(Fail::new("not opened"));
         };
-        assert!(rt; log.len() == 4);
-        assert!(rt; matches!(log[0], Exchange::Choose(0, 0, Ok(Decided::Taken))));
-        assert!(rt; matches!(log[1], Exchange::Choose(0, 2, Err(CallRefusal::MarkedOut))));
-        assert!(rt; matches!(log[2], Exchange::Value(0, Ok(Some(0)))));
-        assert!(rt; matches!(log[3], Exchange::Bar(2, 0, Err(CallRefusal::NoSuch))));
+        assert_eq!(rt;
+            log.as_slice(),
+            [
+                Exchange::Choose(0, 0, Ok(Decided::Taken)),
+                Exchange::Choose(0, 2, Err(CallRefusal::MarkedOut)),
+                Exchange::Value(0, Ok(Some(0))),
+                Exchange::Bar(2, 0, Err(CallRefusal::NoSuch)),
+            ]
+            .as_slice()
+        );
         Ok(())
     }
 
@@ -211,7 +232,7 @@ mod tests {
     fn a_book_that_is_not_fit(rt: HostRuntime) -> Result<(), Fail> {
         let network = worked(&rt)?;
         let mut session = opening::open_network(rt.alloc(), &network, Encoding::Support)?;
-        assert!(rt; matches!(session.choose(0, 0), Ok(Decided::Taken)));
+        assert_eq!(rt; session.choose(0, 0), Ok(Decided::Taken));
         for words in [[1, 3, 9], [1, 3, 10], [1, 2, 0]] {
             let Ok(book) = StoredBook::new(&words) else {
                 return Err(Fail::new("no stored book"));
@@ -220,9 +241,9 @@ mod tests {
             if words[2] == 9 {
                 assert!(rt; opened.is_ok());
                 assert_eq!(rt; session.decisions(), 0);
-                assert!(rt; matches!(session.choose(0, 0), Ok(Decided::Taken)));
+                assert_eq!(rt; session.choose(0, 0), Ok(Decided::Taken));
             } else {
-                assert!(rt; matches!(opened, Err(OpenError::Unfit)));
+                assert_eq!(rt; opened, Err(OpenError::Unfit));
                 assert_eq!(rt; session.decisions(), 1);
             }
         }

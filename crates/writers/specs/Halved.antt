@@ -4,15 +4,9 @@ use Rattle.theory.specs.declared.Side.TheVariants.{Lower, Higher}
 use Rattle.theory.specs.Network.{Network}
 use Rattle.books.specs.declared.refusal.HalvesRefusal.{HalvesRefusal}
 use Rattle.books.specs.declared.refusal.HalvesRefusal.TheVariants.{NoSuch, Words}
-use Rattle.books.specs.declared.refusal.WordsRefusal.{WordsRefusal}
 use Rattle.books.specs.declared.refusal.WordsRefusal.TheVariants.{TooFewWords, NotStored}
 use Rattle.books.specs.Storing.{Unwritten, StoresBoth}
 use Rattle.computed.specs.Scores.{half_at}
-
--- what storing both halves answered, with its refusal as one of the halves
-abbrev pub halves_answer : Result (ℕ × ℕ) WordsRefusal → Result (ℕ × ℕ) HalvesRefusal
-halves_answer (Ok x) = Ok x
-halves_answer (Err refusal) = Err (Words refusal)
 
 -- both halves are stored, each in its buffer, or the first that is too short is told of; or there is no such table and nothing is written
 abbrev pub Halved : Network → ℕ → List ℕ → List ℕ → List ℕ → List ℕ → Result (ℕ × ℕ) HalvesRefusal → Type 0

@@ -1,4 +1,5 @@
-ghost use Rattle.std.specs.Prelude.{◌≡◌, ◌*◌, ◌<◌, [], length};
+ghost use Rattle.std.specs.Prelude.{◌≡◌, ℕ, ◌*◌, ◌<◌, [], length};
+ghost use Rattle.theory.specs.Lists.{has};
 ghost use Rattle.clause_store.specs.Contents.{clauses_of, clause_of, holding_of};
 
 use super::ClauseStore;
@@ -12,10 +13,8 @@ impl ClauseStore {
     {
         ClauseStore {
             values: 0,
-            literals: Vec::new(heap),
-            starts: Vec::new(heap),
+            clauses: Vec::new(heap),
             holders: Vec::new(heap),
-            firsts: Vec::new(heap),
         }
     }
 
@@ -30,7 +29,7 @@ impl ClauseStore {
     pub fn count(&self) -> usize
         ensures { result ≡ length (clauses_of self.now) }
     {
-        self.starts.len().saturating_sub(1)
+        self.clauses.len()
     }
 
     // The literals of clause i.
@@ -38,18 +37,15 @@ impl ClauseStore {
         requires { i < length (clauses_of self.now) }
         ensures { result.now ≡ clause_of self.now i }
     {
-        let from = self.starts[i];
-        let to = self.starts[i + 1];
-        &self.literals.as_slice()[from..to]
+        &self.clauses[i]
     }
 
     // The clauses that hold a literal, by their numbers.
     pub fn holding(&self, literal: u32) -> &[usize]
         requires { literal < 2 * self.now.values }
-        ensures { result.now ≡ holding_of self.now literal }
+        ensures answer { result.now ≡ holding_of self.now literal }
+        ensures exact { (i : ℕ) → has result.now i ≡ has (clause_of self.now i) literal }
     {
-        let from = self.firsts[literal as usize];
-        let to = self.firsts[literal as usize + 1];
-        &self.holders.as_slice()[from..to]
+        &self.holders[literal as usize]
     }
 }

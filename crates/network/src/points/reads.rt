@@ -53,10 +53,7 @@ impl PointList {
     pub fn label(&self, point: usize) -> Option<[u8; LABEL_BYTES]>
         ensures { result ≡ label_at (points_of self.now) point }
     {
-        match self.points.get(point) {
-            Some(p) => Some(p.label()),
-            None => None,
-        }
+        Some(self.points.get(point)?.label())
     }
 
     // How many values the points before this one have.
@@ -64,8 +61,7 @@ impl PointList {
         ensures value { result ≡ offset (counts_of self.now) point }
         ensures bound { result ≤ most_points * most_values }
     {
-        let n = self.points.len().min(point);
-        numbering::total(&self.points[0..n])
+        numbering::offset(&self.points, point)
     }
 
     // How many values there are in all, N.
@@ -79,11 +75,7 @@ impl PointList {
     pub fn number(&self, point: usize, value: usize) -> Option<usize>
         ensures { result ≡ number_at (counts_of self.now) point value }
     {
-        if value < self.count(point) {
-            Some(self.offset(point) + value)
-        } else {
-            None
-        }
+        numbering::number(&self.points, point, value)
     }
 
     // The point and the value that have a value number: nothing from N on.

@@ -35,11 +35,7 @@ impl Table {
     pub fn allows(&self, i: usize, j: usize) -> bool
         ensures { result ≡ allows (table_of self.now) i j }
     {
-        if i < MAX_VALUES && j < MAX_VALUES {
-            self.rows[i][j]
-        } else {
-            false
-        }
+        i < MAX_VALUES && j < MAX_VALUES && self.rows[i][j]
     }
 
     // Allows one more pair; a pair past the most values a point can have changes nothing.

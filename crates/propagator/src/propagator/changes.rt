@@ -2,7 +2,7 @@ ghost use Rattle.std.specs.Prelude.{◌≡◌, ◌*◌, ◌/◌, ◌<◌, true, 
 ghost use Rattle.theory.specs.declared.Mark.TheVariants.{Open};
 ghost use Rattle.propagator.specs.States.{state_of, has_clash, mark_in, with_decision, without_last};
 
-use super::Propagator;
+use super::{Decision, Propagator};
 use propagation::propagate;
 
 impl Propagator {
@@ -13,11 +13,10 @@ impl Propagator {
         requires fresh { mark_in (state_of self.old) (literal / 2) ≡ Open }
         ensures { state_of self.new ≡ with_decision (state_of self.old) literal }
     {
-        let head = self.trail.len();
-        self.decisions.push_reserved(literal);
-        self.heights.push_reserved(head);
+        let height = self.trail.len();
+        self.decisions.push_reserved(Decision { literal, height });
         self.trail.push(literal);
-        self.clashed = propagate(&self.store, &mut self.trail, head);
+        self.clashed = propagate(&self.store, &mut self.trail, height).is_err();
     }
 
     // Takes the last decision back, with all that followed from it; says whether there was one.
@@ -25,14 +24,12 @@ impl Propagator {
         ensures answer { result ≡ nat_lt 0 (length (state_of self.old).decisions) }
         ensures state { state_of self.new ≡ without_last (state_of self.old) }
     {
-        match self.heights.pop() {
-            None => false,
-            Some(height) => {
-                let _ = self.decisions.pop();
-                self.trail.cut(height);
-                self.clashed = false;
-                true
-            }
-        }
+        // a bool and no `Result`: that no decision stands is no failure here, and the session refuses it
+        let Some(Decision { height, .. }) = self.decisions.pop() else {
+            return false;
+        };
+        self.trail.cut(height);
+        self.clashed = false;
+        true
     }
 }

@@ -1,6 +1,5 @@
-ghost use Rattle.std.specs.Prelude.{◌≡◌, ◌^◌, ◌<◌, [], IfOk, IfErr, OnOk};
-ghost use Rattle.clause_store.specs.Fitness.{Fit};
-ghost use Rattle.clause_store.specs.Refusals.{IfUnfit};
+ghost use Rattle.std.specs.Prelude.{◌≡◌, ◌^◌, ◌<◌, [], IfOk};
+ghost use Rattle.clause_store.specs.Refusals.{FitsExactly};
 ghost use Rattle.propagator.specs.States.{state_of};
 
 use super::Propagator;
@@ -18,20 +17,17 @@ impl Propagator {
         values: usize,
     ) -> Result<Propagator, OpenError>
         requires { values < 2 ^ 31 }
-        ensures fit { OnOk result (Fit values (B.clauses book.now)) }
-        ensures unfit { IfErr result (λ e. IfUnfit e (Fit values (B.clauses book.now) → ⊥)) }
+        ensures fit { FitsExactly values (B.clauses book.now) result }
         ensures state { IfOk result (λ p. state_of p ≡ record { values = values; clauses = B.clauses book.now; decisions = [] }) }
     {
         let store = ClauseStore::read(heap, book, values)?;
         let mut trail = Trail::new(heap, values)?;
         let decisions = Vec::with_capacity(heap, values)?;
-        let heights = Vec::with_capacity(heap, values)?;
-        let clashed = settle(&store, &mut trail);
+        let clashed = settle(&store, &mut trail).is_err();
         Ok(Propagator {
             store,
             trail,
             decisions,
-            heights,
             clashed,
         })
     }
@@ -44,7 +40,6 @@ impl Propagator {
             store: ClauseStore::empty(heap),
             trail: Trail::empty(heap),
             decisions: Vec::new(heap),
-            heights: Vec::new(heap),
             clashed: false,
         }
     }

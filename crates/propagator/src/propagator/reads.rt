@@ -1,4 +1,5 @@
-ghost use Rattle.std.specs.Prelude.{◌≡◌, ◌<◌, false, length};
+ghost use Rattle.std.specs.Prelude.{◌≡◌, ◌<◌, false, map, length};
+ghost use Rattle.std.specs.List.{range_with_len};
 ghost use Rattle.propagator.specs.States.{state_of, has_clash, mark_in, SomeOpen};
 
 use super::Propagator;
@@ -34,5 +35,13 @@ impl Propagator {
         ensures { result ≡ mark_in (state_of self.now) n }
     {
         self.trail.mark(n)
+    }
+
+    // The marks of all values, in order, where there is no clash.
+    pub fn marks(&self) -> &[Mark]
+        requires calm { has_clash (state_of self.now) ≡ false }
+        ensures { result.now ≡ map (mark_in (state_of self.now)) (range_with_len 0 (state_of self.now).values) }
+    {
+        self.trail.marks()
     }
 }

@@ -1,8 +1,8 @@
-ghost use Rattle.std.specs.Prelude.{◌≡◌, length, IfOk, Ok};
-ghost use Rattle.theory.specs.Numbering.{count, offset, number};
-ghost use Rattle.calls.specs.States.{counts_of, is_clashed, has_point, has_value};
+ghost use Rattle.std.specs.Prelude.{◌≡◌, IfOk, Ok, Err, MatchResult};
+ghost use Rattle.theory.specs.Numbering.{number};
+ghost use Rattle.calls.specs.States.{counts_of, is_clashed, has_value};
 ghost use Rattle.calls.specs.Replies.{checked, mark_reply, left_reply, value_reply, decisions_reply, clash_reply};
-ghost use Rattle.session.specs.Sessions.{state_of, Found, FoundAll};
+ghost use Rattle.session.specs.Sessions.{state_of, Found, marks_reply};
 
 use super::Session;
 use calls::CallRefusal;
@@ -36,9 +36,7 @@ impl Session {
         ensures answer { result ≡ checked (has_value (state_of self.now) point value) (is_clashed (state_of self.now)) (Ok (number (counts_of (state_of self.now)) point value)) }
         ensures found { IfOk result (λ n. Found (state_of self.now) point value n) }
     {
-        let Some(n) = numbering::number(&self.points, point, value) else {
-            return Err(CallRefusal::NoSuch);
-        };
+        let n = numbering::number(&self.points, point, value).ok_or(CallRefusal::NoSuch)?;
         if self.inner.has_clash() {
             return Err(CallRefusal::Clashed);
         }
@@ -53,10 +51,9 @@ impl Session {
         Ok(self.inner.mark(n))
     }
 
-    // Where the values of a point that is there begin, and how many it has, where there is no clash.
-    fn values_of(&self, point: usize) -> Result<(usize, usize), CallRefusal>
-        ensures answer { result ≡ checked (has_point (state_of self.now) point) (is_clashed (state_of self.now)) (Ok (offset (counts_of (state_of self.now)) point, count (counts_of (state_of self.now)) point)) }
-        ensures found { IfOk result (λ x. FoundAll (state_of self.now) point x.0 x.1) }
+    // The marks of a point's values, in order.
+    pub fn marks(&self, point: usize) -> Result<&[Mark], CallRefusal>
+        ensures { MatchResult result (λ m. marks_reply (state_of self.now) point ≡ Ok m.now) (λ e. marks_reply (state_of self.now) point ≡ Err e) }
     {
         if point >= self.points.len() {
             return Err(CallRefusal::NoSuch);
@@ -64,37 +61,24 @@ impl Session {
         if self.inner.has_clash() {
             return Err(CallRefusal::Clashed);
         }
-        Ok((
-            numbering::offset(&self.points, point),
-            numbering::count(&self.points, point),
-        ))
+        let first = numbering::offset(&self.points, point);
+        let count = numbering::count(&self.points, point);
+        Ok(&self.inner.marks()[first..first + count])
     }
 
     // How many values of a point are not out.
     pub fn left(&self, point: usize) -> Result<usize, CallRefusal>
         ensures { result ≡ left_reply (state_of self.now) point }
     {
-        let (first, count) = self.values_of(point)?;
-        let mut left = 0;
-        for v in 0..count {
-            match self.inner.mark(first + v) {
-                Mark::Out => {}
-                Mark::In | Mark::Open => left += 1,
-            }
-        }
-        Ok(left)
+        let marks = self.marks(point)?;
+        Ok(marks.iter().filter(|mark| **mark != Mark::Out).count())
     }
 
     // The value of a point that is in, the lowest of several; nothing where none is.
     pub fn value(&self, point: usize) -> Result<Option<usize>, CallRefusal>
         ensures { result ≡ value_reply (state_of self.now) point }
     {
-        let (first, count) = self.values_of(point)?;
-        for v in 0..count {
-            if let Mark::In = self.inner.mark(first + v) {
-                return Ok(Some(v));
-            }
-        }
-        Ok(None)
+        let marks = self.marks(point)?;
+        Ok(marks.iter().position(|mark| *mark == Mark::In))
     }
 }

@@ -40,6 +40,7 @@ impl Session {
         ensures state { state_of self.new ≡ under (state_of self.old) (after_decided (state_of self.old).decisions (is_in (number (counts_of (state_of self.old)) point value)) result) }
         ensures kept { OnErr result (self.new ≡ self.old) }
     {
+        // `choose` and `bar` stay two: a function of the wanted mark would need its literal and its refusal as well
         let n = self.find(point, value)?;
         match self.inner.mark(n) {
             Mark::In => Ok(Decided::Already),

@@ -1,5 +1,4 @@
 ghost use Rattle.std.specs.Prelude.{◌≡◌, ◌*◌, ◌<◌, ◌≤◌, [], ◌∷◌, ◌++◌, length, take};
-ghost use Rattle.trail.specs.declared.truth.Truth.TheVariants.{Open};
 ghost use Rattle.trail.specs.Parts.{literals_of, values_of};
 ghost use Rattle.trail.specs.Truths.{truth_of};
 
@@ -11,7 +10,7 @@ impl Trail {
     // Adds a literal of which the trail says nothing.
     pub fn push(&mut self, literal: u32)
         requires within { literal < 2 * values_of self.old }
-        requires fresh { truth_of (literals_of self.old) literal ≡ Open }
+        requires fresh { truth_of (literals_of self.old) literal ≡ None }
         ensures values { values_of self.new ≡ values_of self.old }
         ensures literals { literals_of self.new ≡ literals_of self.old ++ literal ∷ [] }
     {
@@ -25,10 +24,10 @@ impl Trail {
         ensures values { values_of self.new ≡ values_of self.old }
         ensures literals { literals_of self.new ≡ take height (literals_of self.old) }
     {
-        while self.literals.len() > height {
-            if let Some(literal) = self.literals.pop() {
-                self.marks[(literal / 2) as usize] = Mark::Open;
-            }
+        let Trail { marks, literals } = self;
+        for literal in &literals[height..] {
+            marks[(*literal / 2) as usize] = Mark::Open;
         }
+        literals.truncate(height);
     }
 }

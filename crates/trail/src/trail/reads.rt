@@ -1,10 +1,10 @@
-ghost use Rattle.std.specs.Prelude.{◌≡◌, ◌*◌, ◌<◌, length, slice_index};
+ghost use Rattle.std.specs.Prelude.{◌≡◌, ◌*◌, ◌<◌, map, length, slice_index};
+ghost use Rattle.std.specs.List.{range_with_len};
 ghost use Rattle.theory.specs.Marks.{mark_of};
 ghost use Rattle.trail.specs.Parts.{literals_of, values_of};
 ghost use Rattle.trail.specs.Truths.{truth_of};
 
 use super::Trail;
-use crate::Truth;
 use theory::Mark;
 
 impl Trail {
@@ -31,27 +31,22 @@ impl Trail {
         self.marks[n]
     }
 
-    // What the trail says of a literal.
-    pub fn truth(&self, literal: u32) -> Truth
+    // The marks of all values, in order.
+    pub fn marks(&self) -> &[Mark]
+        ensures { result.now ≡ map (mark_of (literals_of self.now)) (range_with_len 0 (values_of self.now)) }
+    {
+        &self.marks
+    }
+
+    // Whether a literal is true: nothing where neither it nor its opposite is held.
+    pub fn truth(&self, literal: u32) -> Option<bool>
         requires { literal < 2 * values_of self.now }
         ensures { result ≡ truth_of (literals_of self.now) literal }
     {
         match self.marks[(literal / 2) as usize] {
-            Mark::Open => Truth::Open,
-            Mark::In => {
-                if literal % 2 == 0 {
-                    Truth::True
-                } else {
-                    Truth::False
-                }
-            }
-            Mark::Out => {
-                if literal % 2 == 0 {
-                    Truth::False
-                } else {
-                    Truth::True
-                }
-            }
+            Mark::Open => None,
+            Mark::In => Some(literal % 2 == 0),
+            Mark::Out => Some(literal % 2 == 1),
         }
     }
 }

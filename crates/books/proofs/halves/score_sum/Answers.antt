@@ -1,20 +1,21 @@
-use Rattle.std.proofs.Common.{◌<◌, [], length, ap, arith}
-use Rattle.std.proofs.lemmas.List.{at_drop_more, at_drop_all}
-use Rattle.theory.specs.Encodings.{score, scores}
+use Rattle.std.proofs.Common.{◌^◌, [], get_or, ◌∙◌, arith, rules}
+use Rattle.std.proofs.lemmas.Iterator.{YieldsList-from_map, YieldsList-from_range}
+use Rattle.std.proofs.lemmas.Iterator.Consumers.{sum_from_yields_List, fits_from_yields_list}
+use Rattle.books.proofs.Counting.{score_of, sum_at_places, scores_sum, scores_bound}
 use Rattle.books.proofs.halves.score_sum.Goals as goal
 
-pub overflow_add-sum : goal.overflow_add-sum
-overflow_add-sum g c = omega (arith, c.loop-i.invariant.1, c.score-sum.ensures.bound, c.requires, c.count-i-end.ensures, c.loop-i-test.true)
-
-pub loop-i-preserved : goal.loop-i-preserved
-loop-i-preserved g c =
+pub sum-requires-clause-fits : goal.sum-requires-clause-fits
+sum-requires-clause-fits g c =
     let cs = g.B.ClauseBook.clauses c.args.book.now in
-    let lt : c.loop-i.i < length cs = omega (arith, c.count-i-end.ensures, c.loop-i-test.true) in (
-      omega (arith, c.loop-i.invariant.0, at_drop_more scores cs c.loop-i.i [] lt, c.score-sum.ensures.value, ap score c.length.ensures),
-      omega (arith, c.loop-i.invariant.1, c.score-sum.ensures.bound),
-    )
+    let n = c.count.result in
+    fits_from_yields_list c.map.result (2 ^ 64)
+    (YieldsList-from_map _ (λ i. score_of (get_or cs i [])) (YieldsList-from_range 0 n n c.map.ensures.source (omega arith)) c.map.ensures.closure (λ x r q k. search rules))
+    (omega (arith, sum_at_places cs [] n c.count.ensures score_of, scores_sum cs, scores_bound cs, c.requires))
 
 pub returns : goal.returns
 returns g c =
     let cs = g.B.ClauseBook.clauses c.args.book.now in
-    omega (arith, c.loop-i.invariant.0, at_drop_all scores cs c.loop-i.i (omega (arith, c.count-i-end.ensures, c.loop-i-test.false)))
+    let n = c.count.result in
+    sum_from_yields_List c.map.result c.sum.result c.sum.ensures.ran
+    (YieldsList-from_map _ (λ i. score_of (get_or cs i [])) (YieldsList-from_range 0 n n c.map.ensures.source (omega arith)) c.map.ensures.closure (λ x r q k. search rules)) ∙
+    sum_at_places cs [] n c.count.ensures score_of ∙ scores_sum cs

@@ -1,13 +1,7 @@
-use Rattle.std.proofs.Common.{◌≡◌, ◌+◌, ◌<◌, ◌≤◌, [], ◌∷◌, ◌++◌, length, get_or, take, drop, set, sym, ap, ◌∙◌, add-zero, arith}
-use Rattle.std.proofs.lemmas.List.{append-nil, append_assoc, take-append-drop, take_more, take_all, length-append, length-take-le}
+use Rattle.std.proofs.Common.{◌≡◌, ◌+◌, ◌<◌, ◌≤◌, [], ◌∷◌, ◌++◌, length, get_or, take, drop, set, sym, ap, ◌∙◌, arith}
+use Rattle.std.proofs.lemmas.List.{append_assoc, take_more, length-append, length-take-le}
 use Rattle.books.proofs.Filling.{fill_more}
 use Rattle.books.proofs.storing.write_clause.Goals as goal
-
-pub loop-j-init : goal.loop-j-init
-loop-j-init g c =
-    let ws = c.args.words.now in
-    let p = c.args.place in
-    sym (ap (λ k. (take p ws ++ []) ++ drop k ws) (add-zero p) ∙ ap (λ t. t ++ drop p ws) (append-nil (take p ws)) ∙ take-append-drop p ws)
 
 pub loop-j-preserved : goal.loop-j-preserved
 loop-j-preserved g c =
@@ -24,12 +18,3 @@ loop-j-preserved g c =
     ap (λ t. t ++ drop (p + j + 1) ws) (append_assoc (take p ws) (take j cl) (c.literal.result ∷ []) ∙
     ap (λ t. take p ws ++ t) (ap (λ x. take j cl ++ x ∷ []) c.literal.ensures ∙ sym (take_more cl j 0 lt))) ∙
     ap (λ k. (take p ws ++ take (j + 1) cl) ++ drop k ws) next
-
-pub returns : goal.returns
-returns g c =
-    let ws = c.args.words.now in
-    let p = c.args.place in
-    let cl = get_or (g.B.ClauseBook.clauses c.args.book.now) c.args.i [] in
-    let end : c.loop-j.j ≡ length cl = omega (arith, c.length-j-end.ensures, c.loop-j-test.false, c.loop-j.auto.j-end) in
-    c.loop-j.invariant ∙ ap (λ k. (take p ws ++ take k cl) ++ drop (p + k) ws) end ∙
-    ap (λ t. (take p ws ++ t) ++ drop (p + length cl) ws) (take_all (length cl) cl (omega arith))

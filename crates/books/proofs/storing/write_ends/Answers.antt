@@ -1,12 +1,8 @@
 use Rattle.std.proofs.Common.{◌≡◌, ◌+◌, ◌<◌, [], ◌∷◌, ◌++◌, length, get_or, take, drop, set, sym, ap, ◌∙◌, add-one, arith}
 use Rattle.std.proofs.lemmas.List.{take_more, take_all, length-take-le, length-set, length-append, drop-set-lt}
 use Rattle.books.specs.Stored.{row, ends_from}
-use Rattle.books.proofs.Filling.{fill_more, row_more, fits_row, length_ends, end_at, first_word}
+use Rattle.books.proofs.Filling.{fill_more, row_more, fits_row, length_ends, end_at}
 use Rattle.books.proofs.storing.write_ends.Goals as goal
-
-pub loop-i-init : goal.loop-i-init
-loop-i-init g c =
-    (omega (arith, c.count-end.ensures), first_word c.args.words.now _ c.count.result (omega (arith, c.requires.room)) c.count.ensures)
 
 pub overflow_add-end-in-loop-i : goal.overflow_add-end-in-loop-i
 overflow_add-end-in-loop-i g c =

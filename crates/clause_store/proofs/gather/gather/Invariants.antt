@@ -1,10 +1,12 @@
-use Rattle.std.proofs.Common.{◌≡◌, ℕ, ◌+◌, ◌<◌, [], length, get_or, take, vec_items}
-use Rattle.books.specs.Stored.{row}
+use Rattle.std.proofs.Common.{◌≡◌, ℕ, ◌<◌, [], get_or, take, vec_items}
 use Rattle.clause_store.specs.Fitness.{FitClause}
+use Rattle.books.specs.Lists.{lists_of}
 use Rattle.clause_store.proofs.gather.gather.Given as goal
 
 abbrev pub invariant-loop-i : goal.invariant-loop-i
 invariant-loop-i g l =
     let cs = g.B.ClauseBook.clauses l.book in
-    (vec_items l.literals ≡ row (take l.i cs)) × (length (vec_items l.starts) ≡ l.i + 1) ×
-    ((k : ℕ) → k < l.i + 1 → get_or (vec_items l.starts) k 0 ≡ length (row (take k cs))) × ((k : ℕ) → k < l.i → FitClause l.values (get_or cs k []))
+    record {
+      read : lists_of (vec_items l.clauses) ≡ take l.i cs;
+      fit : (k : ℕ) → k < l.i → FitClause l.values (get_or cs k []);
+    }

@@ -1,30 +1,32 @@
-use Rattle.std.proofs.Common.{◌≡◌, ◌+◌, ◌-◌, ◌*◌, ◌<◌, ◌≤◌, min, length, get_or, sym, refl, ◌∙◌, arith}
-use Rattle.std.proofs.lemmas.Bool.{eqb-false}
-use Rattle.commands.specs.Commands.{most}
-use Rattle.commands.proofs.Decimals.{read_start, read_more, read_other, read_all}
+use Rattle.std.proofs.iter.Serving.{serving}
+use Rattle.std.specs.List.{AllPass}
+use Rattle.std.specs.Char.{is_ascii_digit}
+use Rattle.std.proofs.lemmas.List.Sums.{AllPass-from_list_all}
+use Rattle.std.proofs.Common.{◌≡◌, [], length, Some, sym, ap, ◌∙◌, rules}
+use Rattle.std.proofs.lemmas.Bool.{eqb-true, eqb-false, cond-true, cond-false}
+use Rattle.std.proofs.lemmas.List.{nil_from_length}
+use Rattle.std.specs.List.{fold}
+use Rattle.commands.proofs.Decimals.{with_digit, decimal_of-some}
 use Rattle.commands.proofs.command.decimal.Goals as goal
-use Rattle.commands.proofs.command.decimal.Goals.{then-b-lt48-via-then-b-lt48, then-b-lt48-via-else-b-lt48+then-b-gt57}
+use Rattle.commands.proofs.command.decimal.Goals.{then-is_empty-via-then-is_empty, then-is_empty-via-else-is_empty+then-not-all_digits}
 
-pub loop-b-init : goal.loop-b-init
-loop-b-init c =
-    let some : length c.args.digits.now ≡ 0 → _ = eqb-false (length c.args.digits.now) 0 (sym c.is_empty.ensures ∙ c.if-is_empty.false) in
-    (read_start c.args.digits.now (omega (arith, some)), omega arith)
+pub returns-then-is_empty : goal.returns-then-is_empty
+returns-then-is_empty c =
+    let text = c.args.text.now in
+    elim c.then-is_empty.branch [
+      | then-is_empty-via-then-is_empty w ↦
+          (let none : text ≡ [] = nil_from_length text (eqb-true (length text) 0 (sym c.is_empty.ensures ∙ w.if-is_empty.true)) in rw none)
+      | then-is_empty-via-else-is_empty+then-not-all_digits w ↦
+          sym (decimal_of-some text (eqb-false (length text) 0 (sym c.is_empty.ensures ∙ w.if-is_empty.false)) ∙ cond-false _ _ _ (sym w.all_digits.ensures ∙ w.if-not-all_digits.true))
+    ]
 
-pub returns-then-b-lt48 : goal.returns-then-b-lt48
-returns-then-b-lt48 c =
-    let b = get_or c.args.digits.now c.loop-b.b-index 0 in
-    let other : b ≤ 57 → b < 48 =
-    elim c.then-b-lt48.branch [ then-b-lt48-via-then-b-lt48 w ↦ (λ _. w.if-b-lt48.true) | then-b-lt48-via-else-b-lt48+then-b-gt57 w ↦ (λ h. omega (arith, w.if-b-gt57.true)) ] in
-    read_other c.args.digits.now c.loop-b.b-index c.loop-b.n b c.loop-b-test.true refl other ∙ c.loop-b.invariant.0
-
-pub loop-b-preserved : goal.loop-b-preserved
-loop-b-preserved c =
-    let b = get_or c.args.digits.now c.loop-b.b-index 0 in
-    let sum : c.saturating_add-n.result ≡ min (10 * c.loop-b.n + (b - 48)) most = omega (arith, c.saturating_add-n.ensures, c.saturating_mul.ensures) in (
-      read_more c.args.digits.now c.loop-b.b-index c.loop-b.n c.saturating_add-n.result b c.loop-b-test.true refl c.if-b-lt48.false c.if-b-gt57.false sum ∙
-          c.loop-b.invariant.0,
-      omega arith,
-    )
+pub fold-value-requires-clause-callable : goal.fold-value-requires-clause-callable
+fold-value-requires-clause-callable c =
+    let text = c.args.text.now in
+    let each : AllPass is_ascii_digit text = AllPass-from_list_all is_ascii_digit text (sym c.all_digits.ensures ∙ c.if-not-all_digits.false) in grind serving
 
 pub returns : goal.returns
-returns c = sym (read_all c.args.digits.now c.loop-b.b-index c.loop-b.n c.loop-b-test.false c.loop-b.invariant.1) ∙ c.loop-b.invariant.0
+returns c =
+    let text = c.args.text.now in
+    let value : c.fold-value.result ≡ fold with_digit 0 text = search rules in
+    ap Some value ∙ sym (decimal_of-some text (eqb-false (length text) 0 (sym c.is_empty.ensures ∙ c.if-is_empty.false)) ∙ cond-true _ _ _ (sym c.all_digits.ensures ∙ c.if-not-all_digits.false))

@@ -1,8 +1,9 @@
-use Rattle.std.proofs.Common.{◌≡◌, ◌++◌, length, take, vec_items, string_bytes, codes, decimal}
+use Rattle.std.proofs.Common.{◌≡◌, ◌++◌, length, take, string_bytes, codes, decimal}
 use Rattle.std.specs.List.{flat_map}
 use Rattle.commands.specs.Texts.{clause_text}
 use Rattle.commands.proofs.text.clauses.Given as goal
 
-abbrev pub invariant-loop-clause : goal.invariant-loop-clause
-invariant-loop-clause l =
-    string_bytes l.out ≡ (decimal (length l.clauses) ++ codes "\n") ++ flat_map (λ v. clause_text (vec_items v)) (take l.clause-index l.clauses)
+abbrev pub invariant-loop-i : goal.invariant-loop-i
+invariant-loop-i g l =
+    let cs = g.B.ClauseBook.clauses l.book in
+    string_bytes l.out ≡ (decimal (length cs) ++ codes "\n") ++ flat_map clause_text (take l.i cs)

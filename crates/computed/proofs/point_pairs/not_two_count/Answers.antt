@@ -8,12 +8,6 @@ twice : (c : goal.After-count-values) → 2 * length (not_two (counts_of c.args.
     c.count-values.result * c.count-values.result
 twice c = rw c.count-values.ensures.value (twice_not_two (counts_of c.args.points.now) c.args.p)
 
-pub overflow_mul-result : goal.overflow_mul-result
-overflow_mul-result c = omega (arith, mul-le-mul_right c.count-values.result c.count-values.ensures.bound)
-
-pub overflow_sub-result : goal.overflow_sub-result
-overflow_sub-result c = omega (arith, twice c)
-
 pub returns : goal.returns
 returns c =
     let most = mul-le-mul_right c.count-values.result c.count-values.ensures.bound in

@@ -1,10 +1,10 @@
-use Rattle.std.proofs.Common.{◌≡◌, ◌<◌, map, length, take, vec_items, sym, ap, ◌∙◌, arith}
-use Rattle.std.proofs.lemmas.List.{length-set, take_all}
+use Rattle.std.proofs.Common.{◌<◌, length, vec_items, ap, ◌∙◌, arith}
+use Rattle.std.proofs.lemmas.List.{length-set}
 use Rattle.network.specs.Contents.{meaning}
 use Rattle.network.specs.Points.{counts_of}
 use Rattle.network.specs.Tables.{table_of}
 use Rattle.computed.specs.Sizes.{size_of}
-use Rattle.computed.proofs.AtTable.{table_more, tables_length}
+use Rattle.computed.proofs.AtTable.{table_more}
 use Rattle.computed.proofs.sizes.sizes.Goals as goal
 
 pub loop-k-preserved : goal.loop-k-preserved
@@ -20,12 +20,3 @@ loop-k-preserved c =
       table_more us vs same (size_of e (meaning net).counts) c.loop-k.k c.loop-k.sizes c.size.result c.table-item.result
           c.loop-k-test.true few c.table-item.is is c.loop-k.invariant.1,
     )
-
-pub returns : goal.returns
-returns c =
-    let net = c.args.network.now in
-    let ts = (meaning net).tables in
-    let f = size_of c.args.encoding (meaning net).counts in
-    let long = tables_length c.tables-table-items.result.now (vec_items net.tables) c.tables-table-items.ensures.value in
-    let all : c.loop-k.k ≡ length ts = omega arith in
-    ap (λ k. take k c.loop-k.sizes) (sym all) ∙ c.loop-k.invariant.1 ∙ ap (map f) (take_all c.loop-k.k ts (omega arith))

@@ -1,51 +1,62 @@
-use Rattle.std.proofs.Common.{◌<◌, [], length, get_or, vec_items, sym, ap, ◌∙◌, arith}
+use Rattle.std.proofs.Common.{◌<◌, [], length, slice_get, vec_items, sym, ap, ◌∙◌, arith, rules}
+use Rattle.std.specs.Option.{option_map}
 use Rattle.theory.specs.Encodings.{table_clauses}
 use Rattle.network.specs.Contents.{meaning}
 use Rattle.network.specs.Points.{counts_of}
 use Rattle.network.specs.Tables.{table_of}
+use Rattle.computed.specs.Ids.{clause_of}
 use Rattle.computed.proofs.AtTable.{table_at, tables_length}
-use Rattle.computed.proofs.Blocks.{before_more, in_block, past_blocks}
-use Rattle.computed.proofs.Measured.{enough, size_at}
+use Rattle.computed.proofs.Blocks.{found_none, found_within, found_there}
+use Rattle.computed.proofs.Measured.{size_at}
 use Rattle.computed.proofs.tables.clause.Goals as goal
+use Rattle.computed.proofs.tables.clause.Goals.{After-points}
 
-pub bounds-sizes-k : goal.bounds-sizes-k
-bounds-sizes-k c =
-    let net = c.args.network.now in
-    let long = tables_length c.tables-table-items.result.now (vec_items net.tables) c.tables-table-items.ensures.value in
-    omega (arith, enough c.args.encoding (meaning net) c.args.sizes.now c.requires)
-
-pub loop-k-preserved : goal.loop-k-preserved
-loop-k-preserved c =
+pub returns-in_err-k : goal.returns-in_err-k
+returns-in_err-k c =
     let net = c.args.network.now in
     let e = c.args.encoding in
     let m = meaning net in
-    let long = tables_length c.tables-table-items.result.now (vec_items net.tables) c.tables-table-items.ensures.value in
-    let h : c.loop-k.k < length m.tables = omega arith in
-    omega (arith, before_more (table_clauses e m.counts) m.tables c.loop-k.k h, size_at e m c.args.sizes.now c.requires c.loop-k.k h)
+    let us = c.tables-tables.result.now in
+    let long = tables_length us (vec_items net.tables) c.tables-tables.ensures.value in
+    ap (option_map (clause_of m.counts)) c.from_residual.ensures ∙
+    found_none _ (table_clauses e m.counts) m.tables (length us) c.args.n c.locate.result long c.locate.ensures
+    (λ i r h k. search (rules, size_at e m c.args.sizes.now c.requires i)) c.in_err-k.was
 
-pub returns-then-left-size : goal.returns-then-left-size
-returns-then-left-size c =
+-- the table that the walk finds is one of the tables
+
+within : (c : After-points) → c.in_ok-k.k < length c.tables-tables.result.now
+within c =
     let net = c.args.network.now in
     let e = c.args.encoding in
     let m = meaning net in
-    let us = c.tables-table-items.result.now in
-    let vs = vec_items net.tables in
-    let same = c.tables-table-items.ensures.value in
-    let k = c.loop-k.k in
-    let l = c.loop-k.left in
-    let x = c.table-item.result in
-    let f = table_clauses e m.counts in
-    let long = tables_length us vs same in
-    let h : k < length m.tables = omega arith in
-    let size = size_at e m c.args.sizes.now c.requires k h in
-    let here = table_at us vs same f k [] x c.loop-k-test.true c.table-item.is in
-    c.of_table.ensures m (ap counts_of (sym c.points-points.ensures), λ g. table_at us vs same g k [] x c.loop-k-test.true c.table-item.is) ∙
-    ap (λ ps. get_or (table_clauses e (counts_of ps) (table_of x)) l []) c.points-points.ensures ∙
-    sym (in_block f m.tables k l c.args.n [] h (omega (arith, size)) c.loop-k.invariant ∙ ap (λ b. get_or b l []) here)
+    let us = c.tables-tables.result.now in
+    let long = tables_length us (vec_items net.tables) c.tables-tables.ensures.value in
+    (found_within _ (table_clauses e m.counts) m.tables (length us) c.args.n c.locate.result long c.locate.ensures
+    (λ i r h k. search (rules, size_at e m c.args.sizes.now c.requires i)) c.in_ok-k.k c.in_ok-k.left c.in_ok-k.was).0
+
+pub offset_bounds-tables-k : goal.offset_bounds-tables-k
+offset_bounds-tables-k c = omega (arith, within c, c.args.network.now.few, ap length c.tables-tables.ensures.value)
+
+pub bounds-tables-k : goal.bounds-tables-k
+bounds-tables-k c = within c
 
 pub returns : goal.returns
 returns c =
     let net = c.args.network.now in
+    let e = c.args.encoding in
     let m = meaning net in
-    let long = tables_length c.tables-table-items.result.now (vec_items net.tables) c.tables-table-items.ensures.value in
-    sym (past_blocks (table_clauses c.args.encoding m.counts) m.tables c.loop-k.k c.loop-k.left c.args.n [] (omega arith) c.loop-k.invariant)
+    let us = c.tables-tables.result.now in
+    let vs = vec_items net.tables in
+    let same = c.tables-tables.ensures.value in
+    let k = c.in_ok-k.k in
+    let l = c.in_ok-k.left in
+    let x = c.index-tables-k.result in
+    let long = tables_length us vs same in
+    let f = table_clauses e m.counts in
+    let lt = (found_within _ f m.tables (length us) c.args.n c.locate.result long c.locate.ensures
+    (λ i r h k. search (rules, size_at e m c.args.sizes.now c.requires i)) k l c.in_ok-k.was).0 in
+    ap (λ ps. option_map (clause_of (counts_of ps)) c.clause.result) (sym c.points.ensures) ∙ c.clause.ensures ∙
+    ap (λ ps. slice_get (table_clauses e (counts_of ps) (table_of x)) l) c.points.ensures ∙
+    ap (λ b. slice_get b l) (sym (table_at us vs same f k [] x lt c.index-tables-k.is)) ∙
+    found_there _ f m.tables (length us) c.args.n c.locate.result long c.locate.ensures
+    (λ i r h k. search (rules, size_at e m c.args.sizes.now c.requires i)) k l c.in_ok-k.was

@@ -21,5 +21,5 @@ returns-in-Some c =
 pub returns-in-None : goal.returns-in-None
 returns-in-None c =
     let body = c.args.body.now in
-    sym (cond-false (point_fits body) (Ok (point (record { values = get_or body 0 0; label = drop 1 body }))) (Err (record_fault c.args.place BadPoint))
+    ap Err c.of_record.ensures ∙ sym (cond-false (point_fits body) (Ok (point (record { values = get_or body 0 0; label = drop 1 body }))) (Err (record_fault c.args.place BadPoint))
     (fails (point_fits body) (decides_point body) (λ w. c.in-None.ensures (subst (PointWithin (get_or body 0 0)) (sym c.label.ensures) w))))

@@ -20,7 +20,7 @@ returns-in_err-record c =
     let open' : (ended s.expect && leb (length bs) p) ≡ false =
     ap (λ l. ended s.expect && leb (length l) p) (sym same) ∙ sym c.done.ensures ∙ c.loop-reader-test.true in
     let q = err_from_is_err_and c.from_residual.result c.from_residual.ensures.1 in
-    rw (q.1, q.2) (sym c.loop-reader.invariant.3 ∙ read_stop bs s p f next open')
+    rw (q.1, q.2) (sym c.loop-reader.invariant.2 ∙ read_stop bs s p f next open')
 
 pub loop-reader-preserved : goal.loop-reader-preserved
 loop-reader-preserved c =
@@ -34,15 +34,14 @@ loop-reader-preserved c =
     let file = told.same ∙ same in
     let next : Ok x ≡ next_at s.expect s p (drop p bs) = told.answer ∙ ap (λ l. next_at s.expect s p (drop p l)) same in
     let state : state_of c.take.new.self ≡ after s x = c.in_ok-take.ensures ∙ ap (λ d. after (state_of d) x) told.draft in
-    let within = told.within in
+    let within = c.next.new.self.cursor.within in
     let moves = told.moves in
     let l = ap length file in
     let far : p + 1 + body_length (kind_of_item x) ≤ length bs = omega (arith, moves, within, l) in (
       file,
-      omega (arith, within, l),
-      omega (arith, moves, ap (λ (t : State). t.pairs) state, after_pairs s x, c.loop-reader.invariant.2),
+      omega (arith, moves, ap (λ (t : State). t.pairs) state, after_pairs s x, c.loop-reader.invariant.1),
       ap (λ t. read_from t c.next.new.self.cursor.position 0 (drop c.next.new.self.cursor.position bs)) state ∙
-          ap (λ n. read_from (after s x) n 0 (drop n bs)) moves ∙ sym (read_on_lem bs s p x next far) ∙ c.loop-reader.invariant.3,
+          ap (λ n. read_from (after s x) n 0 (drop n bs)) moves ∙ sym (read_on_lem bs s p x next far) ∙ c.loop-reader.invariant.2,
     )
 
 pub returns : goal.returns
@@ -53,4 +52,4 @@ returns c =
     let s = state_of r.draft in
     let both = and_parts (ended s.expect) (leb (length r.cursor.file.now) p) (sym c.done.ensures ∙ c.loop-reader-test.false) in
     let all = leb-true (length r.cursor.file.now) p both.1 in
-    sym c.loop-reader.invariant.3 ∙ read_end bs s p both.0 (omega (arith, all, ap length c.loop-reader.invariant.0))
+    sym c.loop-reader.invariant.2 ∙ read_end bs s p both.0 (omega (arith, all, ap length c.loop-reader.invariant.0))

@@ -6,7 +6,6 @@ use Rattle.netfile.proofs.loading.draft_of.Given as goal
 abbrev pub invariant-loop-reader : goal.invariant-loop-reader
 invariant-loop-reader l =
     (l.reader.cursor.file.now ≡ l.file) ×
-    (l.reader.cursor.position ≤ length l.file) ×
     (l.reader.draft.pairs ≤ l.reader.cursor.position) ×
     (read_from (state_of l.reader.draft) l.reader.cursor.position 0 (drop l.reader.cursor.position l.file) ≡ read_file l.file)
 

@@ -1,17 +1,14 @@
-use Rattle.std.proofs.Common.{arith, rules}
-use Rattle.std.proofs.lemmas.List.{at_drop_all}
-use Rattle.network.proofs.Places.{total_of, total_more}
+use Rattle.std.proofs.Common.{◌≡◌, rules, ◌∙◌, arith}
+use Rattle.std.specs.List.{sum_by}
+use Rattle.network.specs.declared.point.Point.{Point}
+use Rattle.network.proofs.Places.{total_sum, total_bound}
 use Rattle.network.proofs.numbering.total.Goals as goal
 
-pub overflow_add-sum : goal.overflow_add-sum
-overflow_add-sum c = let w = c.point-item.result.within in search rules
+pub returns-clause-value : goal.returns-clause-value
+returns-clause-value c =
+    let e : c.sum.result ≡ sum_by (λ (p : Point). p.values) c.args.points.now = search rules in e ∙ total_sum c.args.points.now
 
-pub loop-point-preserved : goal.loop-point-preserved
-loop-point-preserved c =
-    let w = c.point-item.result.within in
-    (omega (arith, total_more c.args.points.now c.loop-point.point-index c.point-item.result c.loop-point-test.true c.point-item.is), omega arith)
-
-pub returns : goal.returns
-returns c =
-    let all = at_drop_all total_of c.args.points.now c.loop-point.point-index c.loop-point-test.false in
-    record { value = omega (arith, all); bound = omega (arith, c.loop-point.invariant, c.requires, c.loop-point.auto.point-index-end) }
+pub returns-clause-bound : goal.returns-clause-bound
+returns-clause-bound c =
+    let e : c.sum.result ≡ sum_by (λ (p : Point). p.values) c.args.points.now = search rules in
+    omega (arith, e, total_sum c.args.points.now, total_bound c.args.points.now)

@@ -1,7 +1,6 @@
-use Rattle.std.proofs.Common.{◌≡◌, length, vec_items, sym, ap, ◌∙◌, arith}
+use Rattle.std.proofs.Common.{length, ap, ◌∙◌, arith}
 use Rattle.std.specs.List.{range_with_len, flat_map}
 use Rattle.std.proofs.lemmas.List.{length-append}
-use Rattle.network.proofs.Lookups.{length_counts}
 use Rattle.session.specs.Sessions.{state_of}
 use Rattle.page.specs.Pages.{line_text}
 use Rattle.page.proofs.Lengths.{joined_up, length_line}
@@ -17,10 +16,3 @@ loop-point-preserved c =
     let more = ap length (joined_up f i) ∙ length-append (flat_map f (range_with_len 0 i)) (f i) in
     let label = ap length c.label.ensures in
     (omega (arith, c.loop-point.invariant.0, c.values.ensures, c.label.type_inv), omega (arith, c.loop-point.invariant.1, p.within.1, c.values.ensures, c.label.type_inv))
-
-pub returns : goal.returns
-returns c =
-    let s = c.args.session.now in
-    let ps = vec_items s.points in
-    let all : c.loop-point.point-index ≡ length ps = omega (arith, ap length c.points-point-items.ensures, c.loop-point-test.false, c.loop-point.auto.point-index-end) in
-    c.loop-point.invariant.0 ∙ ap (λ n. length (flat_map (line_text (state_of s)) (range_with_len 0 n))) (all ∙ sym (length_counts ps))

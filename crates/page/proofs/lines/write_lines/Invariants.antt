@@ -4,5 +4,5 @@ use Rattle.page.specs.Pages.{line_text}
 use Rattle.page.specs.Writing.{Placed}
 use Rattle.page.proofs.lines.write_lines.Given as goal
 
-abbrev pub invariant-loop-point : goal.invariant-loop-point
-invariant-loop-point l = Placed (flat_map (line_text (state_of l.session)) (range_with_len 0 l.point)) 0 l.initial.out l.out l.at
+abbrev pub invariant-loop-p : goal.invariant-loop-p
+invariant-loop-p l = Placed (flat_map (line_text (state_of l.session)) (range_with_len 0 l.p)) 0 l.initial.out l.out l.at

@@ -1,31 +1,21 @@
-use Rattle.std.proofs.Common.{[], sym, ◌∙◌, subst, arith}
-use Rattle.std.proofs.lemmas.Bool.{true≢false}
+use Rattle.std.proofs.Common.{[], sym, ap, ◌∙◌, subst}
+use Rattle.std.proofs.lemmas.Result.{err_from_is_err_and, on_ok_weaker}
 use Rattle.clause_store.specs.Contents.{clauses_of}
 use Rattle.clause_store.proofs.Clauses.{clauses_within}
 use Rattle.trail.specs.Parts.{literals_of}
 use Rattle.propagation.specs.Reaches.{Clash}
 use Rattle.propagation.specs.Queue.{Grew}
+use Rattle.propagation.specs.Outcomes.{outcome}
 use Rattle.propagation.proofs.Reaching.{clash_computed, same_reached, same_clash}
 use Rattle.propagation.proofs.Queueing.{grew_step, grew_back}
 use Rattle.propagation.proofs.propagating.settle.Goals as goal
 
-pub propagate-requires : goal.propagate-requires
-propagate-requires c = record {
-  sized = c.requires.sized ∙ sym c.visit_all.ensures.many;
-  within = omega arith;
-  ready = c.visit_all.ensures.calm c.if-visit_all.false;
-}
-
-pub returns-then-visit_all : goal.returns-then-visit_all
-returns-then-visit_all c =
+pub returns-in_err-visit_all-clause-answer : goal.returns-in_err-visit_all-clause-answer
+returns-in_err-visit_all-clause-answer c =
     let b = c.args.store.now in
-    let k = subst (Clash (clauses_of b)) c.requires.bare (c.visit_all.ensures.clash c.if-visit_all.true) in
-    record {
-      many = c.visit_all.ensures.many;
-      grew = subst (λ t. Grew (clauses_of b) t (literals_of c.visit_all.new.trail)) c.requires.bare c.visit_all.ensures.grew;
-      answer = sym (clash_computed b.values (clauses_of b) (clauses_within b) [] k);
-      exact = λ e. absurd (true≢false e);
-    }
+    let k = subst (Clash (clauses_of b)) c.requires.bare c.in_err-visit_all.ensures.clash in
+    let p = err_from_is_err_and c.from_residual.result c.from_residual.ensures.1 in
+    p.1 ∙ sym (ap outcome (clash_computed b.values (clauses_of b) (clauses_within b) [] k))
 
 pub returns : goal.returns
 returns c =
@@ -37,6 +27,6 @@ returns c =
     record {
       many = c.propagate.ensures.many ∙ c.visit_all.ensures.many;
       grew = grew_step cs [] u w g c.propagate.ensures.grew;
-      answer = c.propagate.ensures.answer ∙ same_clash b.values cs (clauses_within b) u [] g.sound (grew_back cs [] u g);
-      exact = λ e l. c.propagate.ensures.exact e l ∙ same_reached b.values cs (clauses_within b) u [] g.sound (grew_back cs [] u g) l;
+      answer = c.propagate.ensures.answer ∙ ap outcome (same_clash b.values cs (clauses_within b) u [] g.sound (grew_back cs [] u g));
+      exact = on_ok_weaker c.propagate.result (λ e l. e l ∙ same_reached b.values cs (clauses_within b) u [] g.sound (grew_back cs [] u g) l) c.propagate.ensures.exact;
     }

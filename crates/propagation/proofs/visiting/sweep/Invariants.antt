@@ -8,5 +8,8 @@ abbrev pub invariant-loop-i : goal.invariant-loop-i
 invariant-loop-i l =
     let b = l.store in
     let t = literals_of l.initial.trail in
-    (values_of l.trail ≡ values_of l.initial.trail) × Grew (clauses_of b) t (literals_of l.trail) ×
-    ((k : ℕ) → k < l.i-index → Done (literals_of l.trail) (length t) (clause_of b (get_or (holding_of b l.literal) k 0)))
+    record {
+      many : values_of l.trail ≡ values_of l.initial.trail;
+      grew : Grew (clauses_of b) t (literals_of l.trail);
+      done : (k : ℕ) → k < l.i-index → Done (literals_of l.trail) (length t) (clause_of b (get_or (holding_of b l.literal) k 0));
+    }

@@ -30,16 +30,11 @@ loop-call-preserved g c =
       exact_push ps cs r.0 x r.3 (subst (λ s. Right s x) r.2 c.perform-exchange.ensures.answer),
     )
 
-pub returns : goal.returns
-returns g c =
-    record {
-      fit = c.in_ok-open.ensures.answer.0;
-      unfit = tt;
-      promise =
-          λ xs h.
-          let r = c.loop-call.invariant xs h in (
-            r.0,
-            c.in_default.ensures.told (xs ++ r.0) r.1,
-            kept c.loop-call.session (points_of c.args.points.now) (g.B.ClauseBook.clauses c.args.book.now) r.0 r.2 r.3,
-          );
-    }
+pub returns-clause-promise : goal.returns-clause-promise
+returns-clause-promise g c =
+    λ xs h.
+    let r = c.loop-call.invariant xs h in (
+      r.0,
+      c.in_default.ensures.told (xs ++ r.0) r.1,
+      kept c.loop-call.session (points_of c.args.points.now) (g.B.ClauseBook.clauses c.args.book.now) r.0 r.2 r.3,
+    )

@@ -6,6 +6,11 @@ use Rattle.runs.proofs.playing.play_all.Given as goal
 
 abbrev pub invariant-loop-call : goal.invariant-loop-call
 invariant-loop-call g l =
-    (map call_of (vec_items l.log) ≡ take l.call-index l.calls) ×
-    (state_of l.session ≡ state_after (points_of l.points) (g.B.ClauseBook.clauses l.book) (vec_items l.log)) ×
-    Exact (points_of l.points) (g.B.ClauseBook.clauses l.book) (vec_items l.log) × (length l.calls ≤ vec_capacity l.log)
+    let ps = points_of l.points in
+    let cs = g.B.ClauseBook.clauses l.book in
+    record {
+      calls : map call_of (vec_items l.log) ≡ take l.call-index l.calls;
+      state : state_of l.session ≡ state_after ps cs (vec_items l.log);
+      exact : Exact ps cs (vec_items l.log);
+      room : length l.calls ≤ vec_capacity l.log;
+    }

@@ -1,15 +1,20 @@
-use Rattle.std.proofs.Common.{◌≡◌, ◌+◌, get_or, ap, ◌∙◌, arith}
-use Rattle.books.specs.Stored.{end_of}
-use Rattle.books.proofs.Words.{none_past, wide}
+use Rattle.std.proofs.Common.{◌≡◌, ◌+◌, ◌<◌, get_or, ap, ◌∙◌, arith}
+use Rattle.books.specs.Stored.{count_of}
+use Rattle.books.proofs.Words.{many, wide}
 use Rattle.books.proofs.stored.StoredBookClauseBook.length.Goals as goal
 
-pub returns-then-i-word : goal.returns-then-i-word
-returns-then-i-word c = none_past c.args.self.now.words.now c.args.i (omega (arith, c.if-i-word.true, c.word.ensures))
+pub overflow_sub-result : goal.overflow_sub-result
+overflow_sub-result c =
+    let b = c.args.self.now in
+    let ws = b.words.now in
+    let h : c.args.i < count_of ws = omega (arith, many ws, c.if-i-count.true, c.count.ensures) in
+    let next : c.args.i + 1 ≡ 1 + c.args.i = omega arith in
+    omega (arith, b.stored.rising c.args.i h, c.word.ensures ∙ ap (λ k. get_or ws k 0) next, c.start.ensures)
 
-pub returns : goal.returns
-returns c =
-    let ws = c.args.self.now.words.now in
-    let i = c.args.i in
-    let next : i + 1 ≡ 1 + i = omega arith in
-    let to : c.word-to.result ≡ end_of ws i = c.word-to.ensures ∙ ap (λ k. get_or ws k 0) next in
-    omega (arith, wide ws i (omega (arith, c.if-i-word.false, c.word.ensures)), c.start-from.ensures)
+pub returns-then-i-count : goal.returns-then-i-count
+returns-then-i-count c =
+    let b = c.args.self.now in
+    let ws = b.words.now in
+    let h : c.args.i < count_of ws = omega (arith, many ws, c.if-i-count.true, c.count.ensures) in
+    let next : c.args.i + 1 ≡ 1 + c.args.i = omega arith in
+    omega (arith, wide ws b.stored c.args.i h, c.word.ensures ∙ ap (λ k. get_or ws k 0) next, c.start.ensures)

@@ -1,20 +1,13 @@
-use Rattle.std.proofs.Common.{◌≡◌, ◌-◌, length, take, vec_items, sum, ap, ◌∙◌, arith}
+use Rattle.std.proofs.Common.{◌≡◌, length, take, vec_items, sum, ap, ◌∙◌, arith}
 use Rattle.std.specs.List.{flat_map}
 use Rattle.std.proofs.lemmas.List.FromFn.{length-map-range_with_len}
 use Rattle.theory.specs.Encodings.{some_clause, at_least_one, at_most_one, table_clauses}
 use Rattle.network.specs.Contents.{meaning}
 use Rattle.network.specs.Points.{counts_of}
-use Rattle.network.proofs.Lookups.{length_counts}
 use Rattle.computed.proofs.AtTable.{tables_length}
 use Rattle.computed.proofs.Measured.{sum_lengths}
 use Rattle.computed.proofs.ThreeParts.{three_lengths}
 use Rattle.computed.proofs.book.ComputedBookClauseBook.count.Goals as goal
-
-pub overflow_add-result : goal.overflow_add-result
-overflow_add-result c = omega (arith, length_counts (vec_items c.points-points.result.now.points), c.points-points.result.now.within)
-
-pub overflow_add-result-2 : goal.overflow_add-result-2
-overflow_add-result-2 c = omega (arith, length_counts (vec_items c.points-points.result.now.points), c.points-points.result.now.within)
 
 pub returns : goal.returns
 returns c =
@@ -23,7 +16,7 @@ returns c =
     let ks = net.counts in
     let f = table_clauses b.encoding ks in
     let us = c.tables-tables.result.now in
-    let all : length us - 0 ≡ length net.tables = omega (arith, tables_length us (vec_items b.network.now.tables) c.tables-tables.ensures.value) in
+    let all : length us ≡ length net.tables = omega (arith, tables_length us (vec_items b.network.now.tables) c.tables-tables.ensures.value) in
     let tables : c.total.result ≡ length (flat_map f net.tables) =
     c.total.ensures.value ∙ ap (λ n. sum (take n b.sizes)) all ∙ ap sum b.sized ∙ sum_lengths f net.tables in
     let some = ap (λ ps. length (counts_of ps)) c.points-points.ensures in

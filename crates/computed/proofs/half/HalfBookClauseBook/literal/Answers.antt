@@ -1,23 +1,16 @@
-use Rattle.std.proofs.Common.{◌≡◌, get_or, sym, ap, ◌∙◌, arith}
-use Rattle.theory.specs.Network.{near}
-use Rattle.theory.specs.Numbering.{count as count_at}
+use Rattle.std.proofs.Common.{get_or, sym, ap, ◌∙◌, arith}
 use Rattle.network.specs.Points.{counts_of}
 use Rattle.network.specs.Tables.{table_of}
 use Rattle.computed.proofs.HalfClauses.{half_at, half_past}
 use Rattle.computed.proofs.half.HalfBookClauseBook.literal.Goals as goal
 
-pub returns-then-i-count : goal.returns-then-i-count
-returns-then-i-count c =
-    let b = c.args.self.now in
-    let ks = counts_of b.points.now in
-    let t = table_of b.table.now in
-    let n : c.count.result ≡ count_at ks (near b.side t) = c.count.ensures.value ∙ ap (count_at ks) c.near_point.ensures in
-    c.literal_in.ensures ∙ sym (ap (λ cl. get_or cl c.args.j 0) (half_at ks b.side t c.args.i (omega (arith, c.if-i-count.true))))
+pub returns-then-i-values : goal.returns-then-i-values
+returns-then-i-values c =
+    let e = c.args.self.now.end in
+    c.support_literal.ensures ∙
+    sym (ap (λ l. get_or l c.args.j 0) (half_at (counts_of e.points.now) e.side (table_of e.table.now) c.args.i (omega (arith, c.if-i-values.true, c.values.ensures.value))))
 
-pub returns-else-i-count : goal.returns-else-i-count
-returns-else-i-count c =
-    let b = c.args.self.now in
-    let ks = counts_of b.points.now in
-    let t = table_of b.table.now in
-    let n : c.count.result ≡ count_at ks (near b.side t) = c.count.ensures.value ∙ ap (count_at ks) c.near_point.ensures in
-    sym (ap (λ cl. get_or cl c.args.j 0) (half_past ks b.side t c.args.i (omega (arith, c.if-i-count.false))))
+pub returns-else-i-values : goal.returns-else-i-values
+returns-else-i-values c =
+    let e = c.args.self.now.end in
+    sym (ap (λ l. get_or l c.args.j 0) (half_past (counts_of e.points.now) e.side (table_of e.table.now) c.args.i (omega (arith, c.if-i-values.false, c.values.ensures.value))))

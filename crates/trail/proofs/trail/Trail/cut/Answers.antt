@@ -1,39 +1,40 @@
-use Rattle.std.proofs.Common.{◌≡◌, ◌-◌, ◌/◌, ◌<◌, length, take, set, vec_items, vec_capacity, sym, refl, ap, ◌∙◌, subst, arith}
-use Rattle.std.proofs.lemmas.List.{take_all, take-take}
-use Rattle.theory.specs.declared.Mark.TheVariants.{Open}
+use Rattle.std.proofs.Common.{◌+◌, ◌-◌, ◌∷◌, ◌++◌, length, get_or, take, drop, vec_items, vec_capacity, sym, refl, inl, ap, ◌∙◌, subst, arith}
+use Rattle.std.proofs.lemmas.List.{drop_more, take_rest, take-append-drop}
+use Rattle.theory.proofs.Members.{in_right}
 use Rattle.trail.specs.Marked.{Marked}
-use Rattle.trail.specs.Parts.{literals_of}
-use Rattle.trail.proofs.Marking.{marked_pop}
-use Rattle.trail.proofs.Invariant.{marked_of, last_below}
+use Rattle.trail.proofs.Marking.{below_in, marked_without}
+use Rattle.trail.proofs.Invariant.{marked_of}
 use Rattle.trail.proofs.trail.Trail.cut.Goals as goal
 
-pub loop-self-init : goal.loop-self-init
-loop-self-init c = let t = literals_of c.args.self.now in (c.requires, sym (take_all (length t) t (omega arith)), refl)
-
-pub index_mut-requires : goal.index_mut-requires
-index_mut-requires c =
-    omega (arith, last_below c.loop-self.self (vec_items c.pop.new.self) c.in-Some.literal c.in-Some.ensures.items)
-
-pub invariant_of-self : goal.invariant_of-self
-invariant_of-self c =
-    let s = c.loop-self.self in
-    let k = subst (λ t. Marked (vec_capacity s.literals) t (vec_items s.marks)) c.in-Some.ensures.items (marked_of s) in
+pub loop-literal-init : goal.loop-literal-init
+loop-literal-init c =
+    let s = c.args.self.now in
+    let t = vec_items s.literals in
+    let h = c.args.height in
+    let rest = take_rest c.deref.result.now h ∙ ap (drop h) c.deref.ensures.value in
     record {
-      ok =
-          ∣ subst (λ a. Marked a (vec_items c.pop.new.self) (set (vec_items s.marks) (c.in-Some.literal / 2) Open)) (sym c.pop.ensures.capacity)
-          (marked_pop _ _ _ _ k) ∣₁;
+      values = refl;
+      marked = subst (λ u. Marked (vec_capacity s.literals) u (vec_items s.marks)) (sym (ap (λ u. take h t ++ u) rest ∙ take-append-drop h t)) (marked_of s);
     }
 
-pub loop-self-preserved-in-Some : goal.loop-self-preserved-in-Some
-loop-self-preserved-in-Some c =
-    let s = c.loop-self.self in
-    let u = vec_items c.pop.new.self in
-    let m = s.literals.ok.0 in
-    let o = c.pop.new.self.ok.0 in
-    let n : length u ≡ length (literals_of s) - 1 = omega (arith, m, o, c.in-Some.ensures.cases) in
-    let p : 0 < length (literals_of s) = omega (arith, m) in
-    let e : u ≡ take (length u) (literals_of s) = c.pop.ensures.rest ∙ ap (λ k. take k (literals_of s)) (omega (arith, n, m)) in (
-      omega (arith, n, m),
-      e ∙ ap (take (length u)) c.loop-self.invariant.1 ∙ take-take (length u) (length (literals_of s)) (literals_of c.args.self.now) (omega arith),
-      c.loop-self.invariant.2,
-    )
+-- the literal at hand stands before those that are left
+pub index_mut-requires : goal.index_mut-requires
+index_mut-requires c =
+    let h = c.args.height in
+    let d = c.deref.result.now in
+    let xs = take (length d - h) (drop h d) in
+    let i = c.loop-literal.literal-index in
+    let k = subst (λ u. Marked (vec_capacity c.args.self.now.literals) (take h (vec_items c.args.self.now.literals) ++ u) (vec_items c.loop-literal.marks)) (drop_more xs i 0 c.loop-literal-test.true) c.loop-literal.invariant.marked in
+    omega (arith, below_in _ _ _ k (get_or xs i 0) (in_right (take h (vec_items c.args.self.now.literals)) (get_or xs i 0 ∷ drop (i + 1) xs) (get_or xs i 0) (inl refl)), c.loop-literal.marks.ok.0)
+
+pub loop-literal-preserved : goal.loop-literal-preserved
+loop-literal-preserved c =
+    let h = c.args.height in
+    let d = c.deref.result.now in
+    let xs = take (length d - h) (drop h d) in
+    let i = c.loop-literal.literal-index in
+    let k = subst (λ u. Marked (vec_capacity c.args.self.now.literals) (take h (vec_items c.args.self.now.literals) ++ u) (vec_items c.loop-literal.marks)) (drop_more xs i 0 c.loop-literal-test.true) c.loop-literal.invariant.marked in
+    record {
+      values = c.loop-literal.invariant.values;
+      marked = marked_without _ _ _ _ _ k;
+    }

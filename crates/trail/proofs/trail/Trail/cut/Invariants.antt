@@ -1,11 +1,9 @@
-use Rattle.std.proofs.Common.{◌≡◌, ◌≤◌, length, take}
-use Rattle.trail.specs.Parts.{literals_of, values_of}
+use Rattle.std.proofs.Common.{◌≡◌, ◌++◌, take, drop, vec_items, vec_len, vec_capacity}
+use Rattle.trail.specs.Marked.{Marked}
 use Rattle.trail.proofs.trail.Trail.cut.Given as goal
 
-abbrev pub invariant-loop-self : goal.invariant-loop-self
-invariant-loop-self l =
-    (l.height ≤ length (literals_of l.self)) × (literals_of l.self ≡ take (length (literals_of l.self)) (literals_of l.initial.self)) ×
-    (values_of l.self ≡ values_of l.initial.self)
-
-abbrev pub decreases-loop-self : goal.decreases-loop-self
-decreases-loop-self l = length (literals_of l.self)
+abbrev pub invariant-loop-literal : goal.invariant-loop-literal
+invariant-loop-literal l = record {
+  values : vec_len l.marks ≡ vec_len l.initial.marks;
+  marked : Marked (vec_capacity l.fn.self.literals) (take l.height (vec_items l.fn.self.literals) ++ drop l.literal-index l.literal-items) (vec_items l.marks);
+}

@@ -1,3 +1,0 @@
-pub mod Bounded
-pub mod Growing
-pub mod Scoring

@@ -1,0 +1,8 @@
+// A decision that stands.
+#[derive(Clone, Copy, Debug, PartialEq, Eq)]
+pub(super) struct Decision {
+    // what was decided
+    pub(super) literal: u32,
+    // how long the trail was before it
+    pub(super) height: usize,
+}

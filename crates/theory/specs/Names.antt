@@ -1,0 +1,27 @@
+-- The names of encodings, sides and marks, as programs read and write them.
+use Rattle.std.specs.Prelude.{ℕ, cond, List, Some, None, codes, Option}
+use Rattle.std.specs.Str.{bytes_eq}
+use Rattle.theory.specs.declared.Encoding.{Encoding}
+use Rattle.theory.specs.declared.Encoding.TheVariants.{Direct, Support, MinimalSupport}
+use Rattle.theory.specs.declared.Side.{Side}
+use Rattle.theory.specs.declared.Side.TheVariants.{Lower, Higher}
+use Rattle.theory.specs.declared.Mark.{Mark}
+use Rattle.theory.specs.declared.Mark.TheVariants.{In, Out, Open}
+
+-- the encoding of a name, if it is the name of one
+abbrev pub encoding_named : List ℕ → Option Encoding
+encoding_named name =
+    cond (bytes_eq name (codes "direct")) (Some Direct)
+    (cond (bytes_eq name (codes "support")) (Some Support)
+    (cond (bytes_eq name (codes "minimal")) (Some MinimalSupport) None))
+
+-- the name of a side
+abbrev pub side_name : Side → List ℕ
+side_name Lower = codes "lower"
+side_name Higher = codes "higher"
+
+-- the name of a mark
+abbrev pub mark_name : Mark → List ℕ
+mark_name In = codes "in"
+mark_name Out = codes "out"
+mark_name Open = codes "open"
