@@ -47,8 +47,3 @@ end_at p (c ∷ cs) (suc i) h =
 -- a clause fits the row behind those before it
 pub fits_row : (cs : List (List ℕ)) (i : ℕ) → i < length cs → length (row (take i cs)) + length (get_or cs i []) ≤ length (row cs)
 fits_row cs i h = omega (arith, ap length (row_more cs i h), length-append (row (take i cs)) (get_or cs i []), row_front cs (i + 1))
-
--- the first word written
-pub first_word : (ws : List ℕ) (n x : ℕ) → 0 < length ws → x ≡ n → set ws 0 x ≡ n ∷ drop 1 (set ws 0 x)
-first_word [] n x h e = absurd (omega arith)
-first_word (w ∷ ws) n x h e = ap (λ y. y ∷ ws) e

@@ -3,3 +3,4 @@ pub mod Refusals
 pub mod Storing
 pub mod Halves
 pub mod Lists
+pub mod Scores

@@ -12,6 +12,7 @@ pub trait ClauseBook {
     fn count(&self) -> usize
         ensures { result ≡ length (clauses self.now) };
 
+    // A book refuses nothing: 0 for what is missing is a part of the interface (docs/CLAUSES.md).
     // The length of clause i: 0 where there is no clause i.
     fn length(&self, i: usize) -> usize
         ensures { result ≡ length (slice_index_or (clauses self.now) i []) };

@@ -1,7 +1,8 @@
 ghost use Rattle.std.specs.Prelude.{◌≡◌, ℕ, ◌^◌, ◌<◌, ◌≤◌, List, length};
-ghost use Rattle.theory.specs.Encodings.{score, scores};
+ghost use Rattle.theory.specs.Encodings.{score, scores as scores_of};
 ghost use Rattle.books.specs.Stored.{IsStored, clauses_of};
 ghost use Rattle.books.specs.Halves.{book_end, better_of, Better};
+ghost use Rattle.books.specs.Scores.{ScoresOf};
 
 use crate::{ClauseBook, StoredBook, WordsRefusal};
 use theory::Side;
@@ -10,6 +11,7 @@ use theory::Side;
 #[derive(Clone, Copy)]
 pub struct Half<'a> {
     pub side: Side,
+    // a part of the caller's words, by a rule of the project: the better half is answered where it lies
     pub words: &'a [u32],
 }
 
@@ -37,9 +39,29 @@ fn score(literals: usize) -> usize
 // The sum of the scores of a book's clauses.
 pub fn score_sum<B: ClauseBook>(book: &B) -> usize
     requires { length (B.clauses book.now) < 2 ^ 32 }
-    ensures { result ≡ scores (B.clauses book.now) }
+    ensures { result ≡ scores_of (B.clauses book.now) }
 {
     (0..book.count()).map(|i| score(book.length(i))).sum()
+}
+
+// The sums of the scores of two halves, and the side of the better one: the lower on equal sums.
+pub fn scores<B: ClauseBook>(low: &B, high: &B) -> HalfScores
+    requires low { length (B.clauses low.now) < 2 ^ 32 }
+    requires high { length (B.clauses high.now) < 2 ^ 32 }
+    ensures { ScoresOf (B.clauses low.now) (B.clauses high.now) result }
+{
+    let lower = score_sum(low);
+    let higher = score_sum(high);
+    let better = if lower < higher {
+        Side::Higher
+    } else {
+        Side::Lower
+    };
+    HalfScores {
+        better,
+        lower,
+        higher,
+    }
 }
 
 // The better of two stored halves, as a part of the words that hold it: the lower on equal sums.
@@ -48,16 +70,10 @@ pub fn better<'a>(low: &'a [u32], high: &'a [u32]) -> Result<Half<'a>, WordsRefu
 {
     let lower = StoredBook::new(low)?;
     let higher = StoredBook::new(high)?;
-    if score_sum(&lower) < score_sum(&higher) {
-        let n = higher.end();
-        return Ok(Half {
-            side: Side::Higher,
-            words: &high[..n],
-        });
-    }
-    let n = lower.end();
-    Ok(Half {
-        side: Side::Lower,
-        words: &low[..n],
-    })
+    let side = scores(&lower, &higher).better;
+    let words = match side {
+        Side::Lower => &low[..lower.end()],
+        Side::Higher => &high[..higher.end()],
+    };
+    Ok(Half { side, words })
 }

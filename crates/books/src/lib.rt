@@ -9,7 +9,7 @@ mod stored;
 mod storing;
 
 pub use book::{ClauseBook, FaithfulBook};
-pub use halves::{Half, HalfScores, better, score_sum};
+pub use halves::{Half, HalfScores, better, score_sum, scores};
 pub use lists::to_lists;
 pub use refusal::{HalvesRefusal, WordsRefusal};
 pub use stored::StoredBook;

@@ -13,6 +13,7 @@ impl<'a> ClauseBook for &'a [Vec<u32>] {
     }
 
     fn length(&self, i: usize) -> usize {
+        // 0 for what is missing, by the interface, here and below
         self.get(i).map_or(0, |clause| clause.len())
     }
 
@@ -38,7 +39,7 @@ pub fn to_lists<B: ClauseBook>(heap: Global, book: &B) -> Result<Vec<Vec<u32>>, 
     ensures { IfOk result (λ v. lists_of v.items ≡ B.clauses book.now) }
 {
     let mut lists = Vec::new(heap);
-    // a `for`: each list and each push may fail
+    // a `for`: each list and each push may fail, and a chain would say so in no fewer words
     for i in 0..book.count() {
         lists.push(to_list(heap, book, i)?)?;
     }

@@ -7,6 +7,7 @@ use crate::{ClauseBook, WordsRefusal};
 // A book in the caller's words.
 #[derive(Clone, Copy)]
 pub struct StoredBook<'a> {
+    // the caller's words: a stored book is read where it lies
     words: &'a [u32],
     ghost stored: { IsStored words.now },
 }
@@ -15,6 +16,7 @@ pub struct StoredBook<'a> {
 fn word(words: &[u32], i: usize) -> usize
     ensures { result ≡ slice_index words.now i }
 {
+    // 0 for a word that is missing, as the definition of a stored book reads it
     words.get(i).map_or(0, |word| *word as usize)
 }
 
@@ -70,6 +72,7 @@ impl<'a> ClauseBook for StoredBook<'a> {
     }
 
     fn length(&self, i: usize) -> usize {
+        // 0 for what is missing, by the interface, here and below
         if i < self.count() {
             word(self.words, i + 1) - start(self.words, i)
         } else {

@@ -1,4 +1,5 @@
-ghost use Rattle.std.specs.Prelude.{◌≡◌, ℕ, ◌+◌, ◌^◌, ◌<◌, ◌≤◌, List, [], ◌∷◌, ◌++◌, length, take, drop, OnOk, slice_index_or};
+ghost use Rattle.std.specs.Prelude.{◌≡◌, ℕ, ◌+◌, ◌^◌, ◌<◌, ◌≤◌, List, [], ◌∷◌, ◌++◌, length, take, drop, OnOk, MatchResult, slice_index_or};
+ghost use Rattle.books.specs.declared.refusal.WordsRefusal.TheVariants.{TooFewWords};
 ghost use Rattle.books.specs.Stored.{row, ends_from, words_needed};
 ghost use Rattle.books.specs.Storing.{Stores, Holds, StoresBoth};
 
@@ -52,17 +53,26 @@ fn write_ends<B: ClauseBook>(book: &B, words: &mut [u32])
     }
 }
 
-// That a word can hold each end stands in three contracts: it is a fact of no type, since any book may be stored.
+// How many words a book needs, where there are as many.
+fn room<B: ClauseBook>(book: &B, words: &[u32]) -> Result<usize, WordsRefusal>
+    requires { words_needed (B.clauses book.now) < 2 ^ 32 }
+    ensures { MatchResult result (λ n. (n ≡ words_needed (B.clauses book.now)) × (words_needed (B.clauses book.now) ≤ length words.now)) (λ e. (e ≡ TooFewWords (words_needed (B.clauses book.now))) × (length words.now < words_needed (B.clauses book.now))) }
+{
+    let needed = words_needed(book);
+    if words.len() < needed {
+        return Err(WordsRefusal::TooFewWords(needed));
+    }
+    Ok(needed)
+}
+
+// That a word can hold each end stands in each contract: it is a fact of no type, since a book of any size is a book.
 // Stores a book in the caller's words, and answers how many it took.
 pub fn store<B: ClauseBook>(book: &B, words: &mut [u32]) -> Result<usize, WordsRefusal>
     requires { words_needed (B.clauses book.now) < 2 ^ 32 }
     ensures answer { Stores (B.clauses book.now) words.old words.new result }
     ensures book { OnOk result (Holds (B.clauses book.now) words.new) }
 {
-    let needed = words_needed(book);
-    if words.len() < needed {
-        return Err(WordsRefusal::TooFewWords(needed));
-    }
+    let needed = room(book, words)?;
     write_literals(book, words);
     write_ends(book, words);
     Ok(needed)
@@ -79,14 +89,8 @@ pub fn store_both<B: ClauseBook>(
     requires other { words_needed (B.clauses second.now) < 2 ^ 32 }
     ensures { StoresBoth (B.clauses first.now) (B.clauses second.now) low.old low.new high.old high.new result }
 {
-    let needed = words_needed(first);
-    if low.len() < needed {
-        return Err(WordsRefusal::TooFewWords(needed));
-    }
-    let wanted = words_needed(second);
-    if high.len() < wanted {
-        return Err(WordsRefusal::TooFewWords(wanted));
-    }
+    let _ = room(first, low)?;
+    let _ = room(second, high)?;
     let n = store(first, low)?;
     let m = store(second, high)?;
     Ok((n, m))

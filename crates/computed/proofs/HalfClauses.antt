@@ -7,7 +7,18 @@ use Rattle.theory.specs.declared.Side.{Side}
 use Rattle.theory.specs.Encodings.{support_clause, half}
 use Rattle.theory.specs.Network.{Table, near}
 use Rattle.theory.specs.Numbering.{count}
+use Rattle.network.specs.declared.points.PointList.{PointList}
+use Rattle.network.specs.declared.table.Table.{Table as Stored}
+use Rattle.network.specs.Points.{counts_of}
+use Rattle.network.specs.Tables.{table_of}
+use Rattle.partners.specs.Ends.{half_of}
+use Rattle.computed.specs.declared.half.HalfBook.{HalfBook}
 use Rattle.computed.proofs.Measured.{half_length}
+
+-- the clauses of a half book, by what it is made of
+pub half_is :
+    (b : HalfBook) (ps : PointList) (x : Stored) (s : Side) → b.end.points.now ≡ ps → b.end.table.now ≡ x → b.end.side ≡ s → half_of b.end ≡ half (counts_of ps) s (table_of x)
+half_is b ps x s points table side = λ i. half (counts_of (points i)) (side i) (table_of (table i))
 
 module _ (ks : List ℕ) (s : Side) (t : Table) (i : ℕ) where
   module _ (h : i < count ks (near s t)) where

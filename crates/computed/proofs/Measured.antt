@@ -2,14 +2,14 @@
 use Rattle.std.proofs.Common.{◌≡◌, ℕ, zero, suc, ◌+◌, ◌*◌, ◌<◌, ◌≤◌, List, [], ◌∷◌, map, length, get_or, sum, sym, refl, ap, ◌∙◌, arith}
 use Rattle.std.specs.List.{range_with_len, flat_map}
 use Rattle.std.proofs.lemmas.List.FromFn.{length-map-range_with_len}
-use Rattle.std.proofs.lemmas.List.{get_or-take, length-append, length-map, length-take}
+use Rattle.std.proofs.lemmas.List.{get_or-take, length-append}
 use Rattle.std.proofs.lemmas.List.Sums.{sum_by-cons}
 use Rattle.theory.specs.declared.Encoding.{Encoding}
 use Rattle.theory.specs.declared.Side.{Side}
 use Rattle.theory.specs.Encodings.{support_clause, half, table_clauses}
 use Rattle.theory.specs.Network.{Network, Table, near}
 use Rattle.theory.specs.Numbering.{count}
-use Rattle.computed.specs.Sizes.{size_of, Sized}
+use Rattle.computed.specs.Sizes.{Sized}
 
 -- the length of the list at a place, also where there is none
 pub length_at : {X A : Type 0} (f : X → List A) (xs : List X) (k : ℕ) → get_or (map (λ x. length (f x)) xs) k 0 ≡ length (get_or (map f xs) k [])
@@ -36,9 +36,6 @@ pub half_length : (ks : List ℕ) (s : Side) (t : Table) → length (half ks s t
 half_length ks s t = length-map-range_with_len (support_clause ks s t) 0 (count ks (near s t))
 
 module _ (e : Encoding) (net : Network) (ns : List ℕ) (sized : Sized e net ns) where
-  pub enough : length net.tables ≤ length ns
-  enough = omega (arith, ap length sized, length-take (length net.tables) ns, length-map net.tables (size_of e net.counts))
-
   pub size_at : (k : ℕ) → k < length net.tables → get_or ns k 0 ≡ length (get_or (map (table_clauses e net.counts) net.tables) k [])
   size_at k h =
       sym (get_or-take (length net.tables) ns k 0 h) ∙ ap (λ l. get_or l k 0) sized ∙ length_at (table_clauses e net.counts) net.tables k

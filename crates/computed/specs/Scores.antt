@@ -1,22 +1,25 @@
 -- The two halves of a table and their scores.
-use Rattle.std.specs.Prelude.{◌≡◌, ℕ, ◌<◌, ◌≤◌, cond, List, [], map, length, Ok, Err, Result, nat_lt, slice_index_or}
+use Rattle.std.specs.Prelude.{◌≡◌, ℕ, ◌<◌, ◌≤◌, List, [], map, length, Ok, Err, Result, slice_index_or}
 use Rattle.theory.specs.declared.Side.{Side}
 use Rattle.theory.specs.declared.Side.TheVariants.{Lower, Higher}
-use Rattle.theory.specs.Encodings.{half, scores}
+use Rattle.theory.specs.Encodings.{half}
 use Rattle.theory.specs.Network.{Network}
 use Rattle.books.specs.declared.halves.HalfScores.{HalfScores}
+use Rattle.books.specs.Scores.{ScoresOf}
 use Rattle.books.specs.declared.refusal.HalvesRefusal.{HalvesRefusal}
 use Rattle.books.specs.declared.refusal.HalvesRefusal.TheVariants.{NoSuch, Words}
+use Rattle.partners.specs.Ends.{half_of}
+use Rattle.computed.specs.declared.half.HalfBook.{HalfBook}
 
 -- one half of the table k: no clause where there is no such table
 abbrev pub half_at : Network → Side → ℕ → List (List ℕ)
 half_at net s k = slice_index_or (map (half net.counts s) net.tables) k []
 
--- the sums of two halves, and the side of the higher one: the lower on equal sums
-pub record ScoresOf (low high : List (List ℕ)) (r : HalfScores) : Type 0 where
-  pub lower : r.lower ≡ scores low
-  pub higher : r.higher ≡ scores high
-  pub better : r.better ≡ cond (nat_lt (scores low) (scores high)) Higher Lower
+-- the lower and the higher half of the table k, or that there is no such table
+abbrev pub HalvesFound : Network → ℕ → Result (HalfBook × HalfBook) HalvesRefusal → Type 0
+HalvesFound net k (Ok halves) = (k < length net.tables) × (half_of halves.0.end ≡ half_at net Lower k) × (half_of halves.1.end ≡ half_at net Higher k)
+HalvesFound net k (Err NoSuch) = length net.tables ≤ k
+HalvesFound net k (Err (Words refusal)) = ⊥
 
 -- the scores of the halves of the table k, or that there is no such table
 abbrev pub Scored : Network → ℕ → Result HalfScores HalvesRefusal → Type 0

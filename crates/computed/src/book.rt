@@ -7,7 +7,7 @@ ghost use Rattle.computed.specs.Ids.{clause_of};
 ghost use Rattle.computed.specs.Sizes.{Sized};
 
 use crate::id::ClauseId;
-use crate::{point_pairs, sizes, tables};
+use crate::{point_pairs, sizes};
 use books::{ClauseBook, FaithfulBook};
 use network::{MAX_TABLES, Network};
 use theory::Encoding;
@@ -15,10 +15,10 @@ use theory::Encoding;
 // The clauses of a network in an encoding, found as they are asked for.
 #[derive(Clone, Copy)]
 pub struct ComputedBook<'a> {
-    network: &'a Network,
-    encoding: Encoding,
+    pub(crate) network: &'a Network,
+    pub(crate) encoding: Encoding,
     // how many clauses each table has; an array, since a book is made with no memory from the heap and cannot fail
-    sizes: [u16; MAX_TABLES],
+    pub(crate) sizes: [u16; MAX_TABLES],
     ghost sized: { Sized encoding (meaning network.now) sizes },
 }
 
@@ -49,7 +49,7 @@ impl<'a> ComputedBook<'a> {
         if i - some < pairs {
             return point_pairs::at_most_one(points, i - some);
         }
-        tables::clause(self.network, self.encoding, &self.sizes, i - some - pairs)
+        self.table_clause(i - some - pairs)
     }
 }
 
@@ -58,12 +58,12 @@ impl<'a> ClauseBook for ComputedBook<'a> {
 
     fn count(&self) -> usize {
         let points = self.network.points();
-        let tables = self.network.tables().len();
-        points.len() + point_pairs::at_most_one_count(points) + sizes::total(&self.sizes[..tables])
+        points.len() + point_pairs::at_most_one_count(points) + self.table_clause_count()
     }
 
     fn length(&self, i: usize) -> usize {
         let points = self.network.points();
+        // 0 for what is missing, by the interface, here and below
         self.locate(i).map_or(0, |clause| clause.length(points))
     }
 

@@ -1,5 +1,6 @@
 ghost use Rattle.std.specs.Prelude.{◌≡◌, ℕ, ◌*◌, ◌<◌, ◌≤◌, not, length, filter, IfSome, slice_get};
 ghost use Rattle.std.specs.Option.{option_map};
+ghost use Rattle.theory.specs.declared.Side.TheVariants.{Lower};
 ghost use Rattle.theory.specs.Encodings.{barred_with, direct_clauses};
 ghost use Rattle.theory.specs.Network.{allows};
 ghost use Rattle.theory.specs.Numbering.{values};
@@ -11,18 +12,25 @@ ghost use Rattle.computed.specs.Ids.{clause_of};
 use crate::id::ClauseId;
 use crate::table_clauses::TableClauses;
 use network::blocks;
-use partners::literal;
+use partners::{End, literal};
+use theory::Side;
 
 impl<'a> TableClauses<'a> {
+    // The lower end, whose partners are the values that the table allows.
+    fn lower_end(&self) -> End<'a>
+        ensures points { result.points.now ≡ self.now.points.now }
+        ensures table { result.table.now ≡ self.now.table.now }
+        ensures side { result.side ≡ Lower }
+    {
+        End::new(self.points, self.table, Side::Lower)
+    }
+
     // How many values of the higher point the table does not allow beside the lower point's value i.
     fn barred_count(&self, i: usize) -> usize
         ensures value { result ≡ length (barred_with (counts_of self.now.points.now) (table_of self.now.table.now) i) }
         ensures bound { result ≤ most_values }
     {
-        // the test of `End` turned round: with a closure for the test the clause could not name it
-        (0..self.points.count(self.table.high()))
-            .filter(|j| !self.table.allows(i, *j))
-            .count()
+        self.points.count(self.table.high()) - self.lower_end().partners(i)
     }
 
     // How many direct clauses the table has.
@@ -40,9 +48,9 @@ impl<'a> TableClauses<'a> {
         ensures value { result ≡ slice_get (filter (λ j. not (allows (table_of self.now.table.now) i j)) (values (counts_of self.now.points.now) self.now.table.now.high)) n }
         ensures bound { IfSome result (λ j. j < most_values) }
     {
-        // the test of `End` turned round: with a closure for the test the clause could not name it
+        let lower = self.lower_end();
         (0..self.points.count(self.table.high()))
-            .filter(|value| !self.table.allows(i, *value))
+            .filter(|value| !lower.is_partner(i, *value))
             .nth(n)
     }
 

@@ -48,8 +48,9 @@ impl<'a> ClauseBook for HalfBook<'a> {
     }
 
     fn length(&self, i: usize) -> usize {
+        // 0 for what is missing, by the interface, here and below
         if i < self.end.values() {
-            self.end.partners(i) + 1
+            self.end.support_length(i)
         } else {
             0
         }

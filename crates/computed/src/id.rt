@@ -21,6 +21,7 @@ pub enum ClauseId<'a> {
 fn some_literal(points: &PointList, p: usize, j: usize) -> u32
     ensures { result ≡ slice_index (some_clause (counts_of points.now) p) j }
 {
+    // 0 for what is missing, as a clause book answers it, here and below
     if j < points.count(p) {
         literal::is_in(points.offset(p) + j)
     } else {
@@ -36,7 +37,7 @@ impl<'a> ClauseId<'a> {
         match self {
             ClauseId::SomeOf(p) => points.count(*p),
             ClauseId::Two(_, _) => 2,
-            ClauseId::Support(end, i) => end.partners(*i as usize) + 1,
+            ClauseId::Support(end, i) => end.support_length(*i as usize),
         }
     }
 

@@ -4,6 +4,7 @@
 mod book;
 mod direct;
 mod half;
+mod halves;
 mod id;
 mod point_pairs;
 mod scores;
@@ -13,4 +14,5 @@ mod tables;
 
 pub use book::ComputedBook;
 pub use half::HalfBook;
-pub use scores::half_scores;
+pub use halves::table_halves;
+pub use scores::{better_side, half_scores};

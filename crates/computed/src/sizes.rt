@@ -3,8 +3,9 @@ ghost use Rattle.network.specs.Bounds.{most_tables, most_values};
 ghost use Rattle.network.specs.Contents.{meaning};
 ghost use Rattle.network.specs.Points.{counts_of};
 ghost use Rattle.network.specs.Tables.{table_of};
-ghost use Rattle.computed.specs.Sizes.{size_of, Sized};
+ghost use Rattle.computed.specs.Sizes.{size_of, of_tables, Sized};
 
+use crate::book::ComputedBook;
 use crate::table_clauses::TableClauses;
 use books::ClauseBook;
 use network::{MAX_TABLES, Network};
@@ -16,7 +17,7 @@ impl<'a> TableClauses<'a> {
         ensures value { result ≡ size_of encoding (counts_of self.now.points.now) (table_of self.now.table.now) }
         ensures bound { result ≤ most_values * most_values }
     {
-        // a match: there are just these encodings, and a table of functions would hide which
+        // a match: the encodings are an enum, and each case is one call
         match encoding {
             Encoding::Direct => self.direct_count(),
             Encoding::Support => {
@@ -33,18 +34,28 @@ pub(crate) fn sizes(network: &Network, encoding: Encoding) -> [u16; MAX_TABLES]
 {
     let points = network.points();
     let mut sizes = [0u16; MAX_TABLES];
-    // by number: the array has a place for each table that there may be
+    // by number: the array has more places than there are tables, and no chain fills an array
     for (k, table) in network.tables().iter().enumerate() {
         sizes[k] = TableClauses { points, table }.size(encoding) as u16;
     }
     sizes
 }
 
-// How many clauses there are, by how many each table has.
-pub(crate) fn total(sizes: &[u16]) -> usize
+// The sum of the sizes of tables.
+fn total(sizes: &[u16]) -> usize
     requires { length sizes.now ≤ most_tables }
     ensures value { result ≡ sum sizes.now }
     ensures bound { result ≤ 65535 * most_tables }
 {
     sizes.iter().map(|size| *size as usize).sum()
+}
+
+impl<'a> ComputedBook<'a> {
+    // How many clauses the tables have in all.
+    pub(crate) fn table_clause_count(&self) -> usize
+        ensures value { result ≡ length (of_tables self.now.encoding (meaning self.now.network.now)) }
+        ensures bound { result ≤ 65535 * most_tables }
+    {
+        total(&self.sizes[..self.network.tables().len()])
+    }
 }

@@ -6,12 +6,13 @@ ghost use Rattle.network.specs.Contents.{meaning};
 ghost use Rattle.network.specs.Points.{counts_of};
 ghost use Rattle.network.specs.Tables.{table_of};
 ghost use Rattle.computed.specs.Ids.{clause_of};
-ghost use Rattle.computed.specs.Sizes.{of_tables, Sized};
+ghost use Rattle.computed.specs.Sizes.{of_tables};
 
+use crate::book::ComputedBook;
 use crate::id::ClauseId;
 use crate::table_clauses::TableClauses;
 use books::ClauseBook;
-use network::{Network, blocks};
+use network::blocks;
 use theory::{Encoding, Side};
 
 impl<'a> TableClauses<'a> {
@@ -32,7 +33,7 @@ impl<'a> TableClauses<'a> {
     fn clause(&self, encoding: Encoding, n: usize) -> Option<ClauseId<'a>>
         ensures { option_map (clause_of (counts_of self.now.points.now)) result ≡ slice_get (table_clauses encoding (counts_of self.now.points.now) (table_of self.now.table.now)) n }
     {
-        // a match: there are just these encodings, and a table of functions would hide which
+        // a match: the encodings are an enum, and each case is one call
         match encoding {
             Encoding::Direct => self.direct(n),
             Encoding::Support => self.of_halves(n),
@@ -41,21 +42,17 @@ impl<'a> TableClauses<'a> {
     }
 }
 
-// Clause n of the tables, by how many clauses each has.
-pub(crate) fn clause<'a>(
-    network: &'a Network,
-    encoding: Encoding,
-    sizes: &[u16],
-    n: usize,
-) -> Option<ClauseId<'a>>
-    requires { Sized encoding (meaning network.now) sizes.now }
-    ensures { option_map (clause_of (counts_of network.now.points)) result ≡ slice_get (of_tables encoding (meaning network.now)) n }
-{
-    let tables = network.tables();
-    let (k, left) = blocks::locate(tables.len(), |k| sizes[k] as usize, n)?;
-    let table = TableClauses {
-        points: network.points(),
-        table: &tables[k],
-    };
-    table.clause(encoding, left)
+impl<'a> ComputedBook<'a> {
+    // Clause n of the tables, by how many clauses each has.
+    pub(crate) fn table_clause(&self, n: usize) -> Option<ClauseId<'a>>
+        ensures { option_map (clause_of (counts_of self.now.network.now.points)) result ≡ slice_get (of_tables self.now.encoding (meaning self.now.network.now)) n }
+    {
+        let tables = self.network.tables();
+        let (k, left) = blocks::locate(tables.len(), |k| self.sizes[k] as usize, n)?;
+        let table = TableClauses {
+            points: self.network.points(),
+            table: &tables[k],
+        };
+        table.clause(self.encoding, left)
+    }
 }

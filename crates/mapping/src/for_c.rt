@@ -9,7 +9,7 @@ use std::alloc::Global;
 pub fn hazhgiti_map(heap: Global, file: &[u8], page: &mut [u8]) -> i64
     ensures { (q : Result ℕ MapError) × Maps (read_file file.now) page.old page.new q × (result ≡ answer_of q) }
 {
-    // one number for a length or a refusal, as a program in C reads it
+    // one number for a length or a refusal, as the export in mapping_c hands it to a program in C
     match write_map(heap, file, page) {
         Ok(length) => length as i64,
         Err(error) => -(error.number() as i64),

@@ -9,6 +9,7 @@ use theory::Encoding;
 pub fn write_map(heap: Global, file: &[u8], out: &mut [u8]) -> Result<usize, MapError>
     ensures { Maps (read_file file.now) out.old out.new result }
 {
+    // the page goes into the caller's bytes, for C
     let network = netfile::read(heap, file)?;
     let session = opening::open_network(heap, &network, Encoding::Support)?;
     let length = page::write_page(&session, out)?;

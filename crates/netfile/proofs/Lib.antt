@@ -1,5 +1,4 @@
 pub mod Statements
-pub mod Layers
 pub mod Tabling
 pub mod Runs
 pub mod Lowest

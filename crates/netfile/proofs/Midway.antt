@@ -15,10 +15,11 @@ use Rattle.netfile.specs.declared.record.Kind.{Kind}
 use Rattle.netfile.specs.declared.record.Kind.TheVariants.{Head, Point, Table, Pair, End}
 use Rattle.netfile.specs.declared.record.Expectation.{Expectation}
 use Rattle.netfile.specs.declared.record.Expectation.TheVariants.{Points, Tables, Pairs}
-use Rattle.netfile.specs.Bytes.{code_of, kind_of}
+use Rattle.netfile.specs.Bytes.{code_of}
 use Rattle.netfile.specs.Records.{Item, head, point, table, pair, end, kind_of_item}
 use Rattle.netfile.specs.Reading.{State, start, table_or_end, may_come, has_kind, empty_table, last_table, objection_to, objection, allow_last, after}
 use Rattle.netfile.specs.Listings.{TableListing, EntryWithin, pair_count, listed_table}
+use Rattle.netfile.proofs.Fronts.{code_once}
 use Rattle.netfile.proofs.Grids.{last_of, allowing_listed, in_from_allows, allows_from_in}
 
 -- what is expected after some of p points, and after some tables
@@ -59,14 +60,6 @@ listing t ps = record { low = t.low; high = t.high; pairs = ps }
 abbrev pub with_one : TableListing → ℕ × ℕ → TableListing
 with_one t x = listing t (t.pairs ++ x ∷ [])
 
--- a kind is known by its byte
-pub kind_back : (k : Kind) → kind_of (code_of k) ≡ Some k
-kind_back Head = refl
-kind_back Point = refl
-kind_back Table = refl
-kind_back Pair = refl
-kind_back End = refl
-
 pub in_from_kind : (ks : List Kind) (k : Kind) → has_kind ks k ≡ true → k ∈ ks
 in_from_kind [] k h = absurd (false≢true h)
 in_from_kind (x ∷ ks) k h =
@@ -74,7 +67,7 @@ in_from_kind (x ∷ ks) k h =
     (or_cases (eqb (code_of x) (code_of k)) (has_kind ks k) h)
   where
     same : code_of x ≡ code_of k → k ≡ x
-    same e = cc (kind_back k, kind_back x, ap kind_of e)
+    same e = sym (code_once x k e)
 
 pub kind_from_in : (ks : List Kind) (k : Kind) → k ∈ ks → has_kind ks k ≡ true
 kind_from_in [] k h = absurd h

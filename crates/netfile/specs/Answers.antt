@@ -1,6 +1,6 @@
 -- What the program's own types say.
 use Rattle.std.specs.Prelude.{Ok, Err, Result}
-use Rattle.netfile.specs.declared.cursor.Whole.{Whole}
+use Rattle.netfile.specs.declared.whole.Whole.{Whole}
 use Rattle.netfile.specs.Bytes.{Raw}
 
 -- an answer with its value read by f

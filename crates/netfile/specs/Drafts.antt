@@ -1,5 +1,6 @@
 -- What a draft of a network says of the records so far.
-use Rattle.std.specs.Prelude.{Bool, true, false, cond, length, vec_items, nat_lt}
+use Rattle.std.specs.Prelude.{Bool, true, false, cond, length, Some, None, Ok, Err, Option, Result, vec_items, nat_lt}
+use Rattle.network.specs.declared.refusal.Refusal.{Refusal}
 use Rattle.network.specs.Points.{entries}
 use Rattle.network.specs.Tables.{tables_of}
 use Rattle.netfile.specs.declared.draft.Draft.{Draft}
@@ -30,3 +31,8 @@ ended Nothing = true
 -- x while announced tables are still to come, and otherwise y
 abbrev pub when_more : {A : Type 0} → State → A → A → A
 when_more s x y = cond (nat_lt (length s.tables) s.announced_tables) x y
+
+-- an error where something is refused, and otherwise nothing
+abbrev pub unless_refused : Option Refusal → Result (Unit {0}) Refusal
+unless_refused None = Ok tt
+unless_refused (Some r) = Err r

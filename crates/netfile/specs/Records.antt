@@ -58,6 +58,11 @@ table_fits body = nat_lt (slice_index body 0) (slice_index body 1)
 abbrev pub record_fault : ℕ → Refusal → RecordFault
 record_fault place x = record { refusal = x; layer = RecordLayer; place = place }
 
+-- an answer whose refusal is a fault of the record layer at the place
+abbrev pub at_place : {A : Type 0} → ℕ → Result A Refusal → Result A RecordFault
+at_place place (Ok x) = Ok x
+at_place place (Err r) = Err (record_fault place r)
+
 -- the item where it is in order, and otherwise the refusal
 abbrev pub in_order : ℕ → Bool → Refusal → Item → Result Item RecordFault
 in_order place fits x item = cond fits (Ok item) (Err (record_fault place x))

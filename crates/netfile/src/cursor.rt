@@ -3,9 +3,9 @@ ghost use Rattle.netfile.specs.Bytes.{body_length, raw_at};
 ghost use Rattle.netfile.specs.Records.{item_of, kind_of_item, record_at};
 ghost use Rattle.netfile.specs.Answers.{map_ok, raw_of};
 
-use crate::checks;
 use crate::fault::{ByteFault, RecordFault};
 use crate::record::{Kind, Record};
+use crate::whole::Whole;
 use network::Refusal;
 
 // Moves over the bytes of a file, record by record.
@@ -14,13 +14,6 @@ pub struct Cursor<'a> {
     file: &'a [u8],
     position: usize,
     ghost within: { position ≤ length file.now },
-}
-
-// A whole record: its kind, and as many bytes as the kind asks for.
-#[derive(Clone, Copy)]
-pub struct Whole<'a> {
-    kind: Kind,
-    body: &'a [u8],
 }
 
 impl<'a> Cursor<'a> {
@@ -42,7 +35,6 @@ impl<'a> Cursor<'a> {
     // The byte layer: the whole record that begins here.
     fn whole(&self) -> Result<Whole<'a>, ByteFault>
         ensures answer { map_ok raw_of result ≡ raw_at self.now.position (drop self.now.position self.now.file.now) }
-        ensures size { IfOk result (λ w. length w.body.now ≡ body_length w.kind) }
         ensures within { IfOk result (λ w. self.now.position + 1 + length w.body.now ≤ length self.now.file.now) }
     {
         let place = self.position;
@@ -66,7 +58,7 @@ impl<'a> Cursor<'a> {
     pub(crate) fn at_end(&self) -> bool
         ensures { result ≡ nat_le (length self.now.file.now) self.now.position }
     {
-        self.position >= self.file.len()
+        self.position == self.file.len()
     }
 
     // The next record, through the byte and the record layer. After a fault the cursor stays where it is.
@@ -77,7 +69,9 @@ impl<'a> Cursor<'a> {
     {
         let place = self.position;
         let whole = self.whole()?;
-        let record = checks::check(place, whole.kind, whole.body)?;
+        let record = whole
+            .check()
+            .map_err(|refusal| RecordFault::of_record(place, refusal))?;
         self.position = place + 1 + whole.body.len();
         Ok(record)
     }

@@ -4,7 +4,7 @@ ghost use Rattle.network.specs.Tables.{table_of, tables_of};
 ghost use Rattle.network.specs.declared.refusal.Refusal.TheVariants.{Misplaced};
 ghost use Rattle.netfile.specs.Records.{item_of, point, table, pair, end};
 ghost use Rattle.netfile.specs.Reading.{start, last_table, objection_to, objection, after, allow_last};
-ghost use Rattle.netfile.specs.Drafts.{state_of, ended, when_more};
+ghost use Rattle.netfile.specs.Drafts.{state_of, ended, when_more, unless_refused};
 
 use crate::record::{Expectation, Record};
 use network::{Point, Refusal, Table, numbering};
@@ -69,61 +69,61 @@ impl Draft {
         self.tables.last().copied().unwrap_or(Table::new(0, 0))
     }
 
-    // What is wrong with a pair of the last table, if anything.
-    fn pair_objection(&self, low: usize, high: usize) -> Option<Refusal>
-        ensures { result ≡ objection_to (state_of self.now) (pair low high) }
+    // Refuses a pair of the last table with which something is wrong.
+    fn pair_objection(&self, low: usize, high: usize) -> Result<(), Refusal>
+        ensures { result ≡ unless_refused (objection_to (state_of self.now) (pair low high)) }
     {
         let table = self.last_table();
         let lows = numbering::count(&self.points, table.low());
         let highs = numbering::count(&self.points, table.high());
         if low >= lows || high >= highs {
-            return Some(Refusal::MissingValue);
+            return Err(Refusal::MissingValue);
         }
         if table.allows(low, high) {
-            return Some(Refusal::RepeatedPair);
+            return Err(Refusal::RepeatedPair);
         }
-        None
+        Ok(())
     }
 
-    // What is wrong with a table after all points, if anything.
-    fn table_objection(&self, low: u8, high: u8) -> Option<Refusal>
-        ensures { result ≡ when_more (state_of self.now) (objection_to (state_of self.now) (table low high)) (Some Misplaced) }
+    // Refuses a table after all points with which something is wrong.
+    fn table_objection(&self, low: u8, high: u8) -> Result<(), Refusal>
+        ensures { result ≡ unless_refused (when_more (state_of self.now) (objection_to (state_of self.now) (table low high)) (Some Misplaced)) }
     {
         if self.tables.len() >= self.announced.tables {
-            Some(Refusal::Misplaced)
+            Err(Refusal::Misplaced)
         } else if (high as usize) < self.points.len() {
-            None
+            Ok(())
         } else {
-            Some(Refusal::MissingPoint)
+            Err(Refusal::MissingPoint)
         }
     }
 
-    // What is wrong with the end after all points, if anything.
-    fn end_objection(&self, pairs: usize) -> Option<Refusal>
-        ensures { result ≡ when_more (state_of self.now) (Some Misplaced) (objection_to (state_of self.now) (end pairs)) }
+    // Refuses the end after all points where something is wrong with it.
+    fn end_objection(&self, pairs: usize) -> Result<(), Refusal>
+        ensures { result ≡ unless_refused (when_more (state_of self.now) (Some Misplaced) (objection_to (state_of self.now) (end pairs))) }
     {
         if self.tables.len() < self.announced.tables {
-            Some(Refusal::Misplaced)
+            Err(Refusal::Misplaced)
         } else if pairs == self.pairs {
-            None
+            Ok(())
         } else {
-            Some(Refusal::WrongCount)
+            Err(Refusal::WrongCount)
         }
     }
 
-    // The network layer: what is wrong with a record here, if anything.
-    pub(crate) fn objection(&self, next: Record) -> Option<Refusal>
-        ensures { result ≡ objection (state_of self.now) (item_of next) }
+    // The network layer: refuses a record with which something is wrong here.
+    pub(crate) fn objection(&self, next: Record) -> Result<(), Refusal>
+        ensures { result ≡ unless_refused (objection (state_of self.now) (item_of next)) }
     {
         match (self.expect, next) {
-            (Expectation::Start, Record::Head { .. }) => None,
-            (Expectation::Points, Record::Point(_)) => None,
+            (Expectation::Start, Record::Head { .. }) => Ok(()),
+            (Expectation::Points, Record::Point(_)) => Ok(()),
             (Expectation::Tables, Record::Table { low, high }) => self.table_objection(low, high),
             (Expectation::Tables, Record::End { pairs }) => self.end_objection(pairs),
             (Expectation::Pairs, Record::Table { low, high }) => self.table_objection(low, high),
             (Expectation::Pairs, Record::Pair { low, high }) => self.pair_objection(low, high),
             (Expectation::Pairs, Record::End { pairs }) => self.end_objection(pairs),
-            _ => Some(Refusal::Misplaced),
+            _ => Err(Refusal::Misplaced),
         }
     }
 

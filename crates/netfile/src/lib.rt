@@ -8,5 +8,6 @@ pub mod fault;
 mod loading;
 mod reader;
 pub mod record;
+mod whole;
 
 pub use loading::{ReadError, load, read};

@@ -55,10 +55,8 @@ fn finish(draft: Draft) -> Network
         tables,
         pairs: _,
     } = draft;
-    match PointList::new(points) {
-        Some(points) => Network::assemble(points, tables),
-        None => unreachable(),
-    }
+    let points = PointList::new(points).unwrap();
+    Network::assemble(points, tables)
 }
 
 // What the records of a file say, to its end.

@@ -51,9 +51,9 @@ impl<'a> Reader<'a> {
             return Err(Fault::of_network(place, Refusal::TrailingBytes));
         }
         let record = self.cursor.next()?;
-        match self.draft.objection(record) {
-            None => Ok(record),
-            Some(refusal) => Err(Fault::of_network(place, refusal)),
-        }
+        self.draft
+            .objection(record)
+            .map_err(|refusal| Fault::of_network(place, refusal))?;
+        Ok(record)
     }
 }

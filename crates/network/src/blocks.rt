@@ -8,7 +8,7 @@ pub fn locate<F: Fn(usize) -> usize>(blocks: usize, size: F, n: usize) -> Option
     ensures { (sizes : List ℕ) → length sizes ≡ blocks → ((i r : ℕ) → i < blocks → F.post size i r → r ≡ slice_index sizes i) → result ≡ place sizes n }
 {
     let mut left = n;
-    // by number, as the sizes are given, and to the block alone
+    // by number, as the sizes are given; it stops at the block that it looks for
     for i in 0..blocks {
         let items = size(i);
         if left < items {

@@ -10,10 +10,11 @@ pub fn count(points: &[Point], point: usize) -> usize
     ensures value { result ≡ count (values_of (entries points.now)) point }
     ensures bound { result ≤ most_values }
 {
+    // 0 for a missing point, by the definition: such a point has no values
     points.get(point).map_or(0, |p| p.values() as usize)
 }
 
-// The bound on the points stands in three contracts: a struct of slice and bound would ask the same of who makes it.
+// The bound on the points stands in three contracts: a session has no point before it is opened, so it lends a slice and no `PointList`.
 // How many values the points have in all.
 pub(crate) fn total(points: &[Point]) -> usize
     requires { length points.now ≤ most_points }

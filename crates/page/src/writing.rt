@@ -27,6 +27,7 @@ fn page_length(session: &Session) -> usize
 pub fn write_page(session: &Session, out: &mut [u8]) -> Result<usize, PageRefusal>
     ensures { Written (page_text (state_of session.now)) out.old out.new result }
 {
+    // the caller's bytes, by a rule of the project and for C: a page is written with no memory from the heap
     if out.len() < page_length(session) {
         return Err(PageRefusal::TooShort);
     }

@@ -84,6 +84,13 @@ impl<'a> End<'a> {
             .count()
     }
 
+    // How many literals the support clause of the value i has.
+    pub fn support_length(&self, i: usize) -> usize
+        ensures { result ≡ length (support_of self.now i) }
+    {
+        self.partners(i) + 1
+    }
+
     // Partner n of the value i: nothing where it has no more than n.
     pub fn partner(&self, i: usize, n: usize) -> Option<usize>
         ensures value { result ≡ slice_get (partners_of self.now i) n }
@@ -102,6 +109,7 @@ impl<'a> End<'a> {
         if n == 0 {
             return literal::is_out(self.points.offset(self.near()) + value);
         }
+        // 0 for what is missing, as a clause book answers it
         match self.partner(value, n - 1) {
             Some(partner) => literal::is_in(self.points.offset(self.far()) + partner),
             None => 0,

@@ -51,7 +51,7 @@ pub(crate) fn visit_all(store: &ClauseStore, trail: &mut Trail) -> Result<(), Co
     ensures calm { OnOk result ((c : List ℕ) → c ∈ clauses_of store.now → Done (literals_of trail.new) 0 c) }
     ensures clash { OnErr result (Clash (clauses_of store.now) (literals_of trail.old)) }
 {
-    // by number, as `visit` takes a clause from the index
+    // by number, so that this and `sweep`, which has numbers alone, visit alike
     for i in 0..store.count() {
         visit(store, trail, i)?;
     }

@@ -47,6 +47,7 @@ fn bare(word: &[u8]) -> Option<Command>
     }
 }
 
+// `clauses` and `number` are taken apart here too: the word before the first space decides, for every command in one way.
 // The clauses of the encoding of a name.
 fn clauses(name: &[u8]) -> Option<Command>
     ensures { result ≡ clauses_of name.now }

@@ -5,6 +5,7 @@ use books::HalfScores;
 pub use commands::text::{clauses, place, refused};
 use std::alloc::{AllocError, Global};
 
+// A function and no `Display`: refusals of four types are shown so, by their number.
 // The number of a refusal that has no place.
 pub fn refused_call(heap: Global, number: u8) -> Result<String, AllocError>
     ensures { IfOk result (λ s. string_bytes s ≡ refused_call_text number) }

@@ -6,9 +6,7 @@ ghost use Rattle.computed.specs.Scores.{half_at};
 ghost use Rattle.writers.specs.Halved.{Halved};
 
 use books::HalvesRefusal;
-use computed::HalfBook;
 use network::Network;
-use theory::Side;
 
 // Writes the two halves of a table, each as a stored book, and answers how many words each took.
 pub fn write_halves(
@@ -20,10 +18,7 @@ pub fn write_halves(
     ensures answer { Halved (meaning network.now) table low.old low.new high.old high.new result }
     ensures books { OnOk result (Holds (half_at (meaning network.now) Lower table) low.new × Holds (half_at (meaning network.now) Higher table) high.new) }
 {
-    let found = network.tables().get(table).ok_or(HalvesRefusal::NoSuch)?;
-    let points = network.points();
-    let lower = HalfBook::new(points, found, Side::Lower);
-    let higher = HalfBook::new(points, found, Side::Higher);
+    let (lower, higher) = computed::table_halves(network, table)?;
     let taken = books::store_both(&lower, &higher, low, high)?;
     Ok(taken)
 }

@@ -69,6 +69,7 @@ impl Session {
         ensures state { state_of self.new ≡ under (state_of self.old) (after_withdrawn (state_of self.old).decisions result) }
         ensures kept { OnErr result (self.new ≡ self.old) }
     {
+        // tested before: `Vec::pop` does not say that an empty vector stays as it was, and a refusal leaves the session so (`kept`)
         if self.inner.count() == 0 {
             return Err(CallRefusal::NothingToWithdraw);
         }

@@ -11,6 +11,7 @@ use propagator::Propagator;
 use std::alloc::Global;
 
 impl Session {
+    // New and open are two steps: a session is opened again over another book, and a refused opening leaves it as it was.
     // A session that is not opened yet: it has no point, no decision and no clash.
     pub fn new(heap: Global) -> Session
         ensures { state_of result ≡ unopened }

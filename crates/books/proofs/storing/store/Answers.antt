@@ -9,12 +9,12 @@ pub returns : goal.returns
 returns g c =
     let cs = g.B.ClauseBook.clauses c.args.book.now in
     let ws = c.args.words.now in
-    let n : c.words_needed-needed.result ≡ words_needed cs = c.words_needed-needed.ensures in
-    let room : words_needed cs ≤ length ws = omega (arith, c.if-words-needed.false) in
+    let n : c.in_ok-needed.needed ≡ words_needed cs = c.in_ok-needed.ensures.0 in
+    let room : words_needed cs ≤ length ws = c.in_ok-needed.ensures.1 in
     let front = take (length cs + 1) ws in
     let back = row cs ++ drop (words_needed cs) ws in
     let k : length front ≡ 1 + length cs = omega (arith, length-take-le (length cs + 1) ws (omega arith)) in
-    let is : c.write_ends.new.words ≡ stored_form cs ++ drop c.words_needed-needed.result ws =
+    let is : c.write_ends.new.words ≡ stored_form cs ++ drop c.in_ok-needed.needed ws =
     c.write_ends.ensures ∙
     ap (λ t. (length cs ∷ ends_from (length cs + 1) cs) ++ drop (1 + length cs) t) (c.write_literals.ensures ∙ append_assoc front (row cs) (drop (words_needed cs) ws)) ∙
     ap (λ t. (length cs ∷ ends_from (length cs + 1) cs) ++ t) (drop_at front back (1 + length cs) k) ∙
@@ -22,5 +22,5 @@ returns g c =
     ap (λ m. (length cs ∷ (ends_from (length cs + 1) cs ++ row cs)) ++ drop m ws) (sym n) in
     record {
       answer = (n, room, is);
-      book = subst (Holds cs) (sym is) (stored_is cs (drop c.words_needed-needed.result ws), stored_says cs (drop c.words_needed-needed.result ws));
+      book = subst (Holds cs) (sym is) (stored_is cs (drop c.in_ok-needed.needed ws), stored_says cs (drop c.in_ok-needed.needed ws));
     }

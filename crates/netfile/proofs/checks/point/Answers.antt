@@ -1,25 +1,36 @@
-use Rattle.std.proofs.Common.{◌≡◌, get_or, drop, Ok, Err, sym, ap, ◌∙◌, subst}
-use Rattle.std.proofs.lemmas.Bool.{cond-true, cond-false}
+use Rattle.std.proofs.Common.{◌≡◌, ℕ, Bool, false, List, Option, Some, None, Decides, ⊎_elim, ◌∷◌, Ok, Err, sym, ap, ◌∙◌, subst, rules}
+use Rattle.std.specs.Option.{MatchOption, ok_or}
+use Rattle.std.proofs.lemmas.Bool.{cases_Bool, cond-true, cond-false}
+use Rattle.network.specs.declared.point.Point.{Point}
 use Rattle.network.specs.declared.refusal.Refusal.TheVariants.{BadPoint}
 use Rattle.network.specs.Bounds.{PointWithin}
 use Rattle.network.specs.Points.{Entry, entry_of}
-use Rattle.netfile.specs.Records.{point, point_fits, record_fault}
+use Rattle.netfile.specs.declared.record.Record.{Record}
+use Rattle.netfile.specs.declared.record.Record.TheVariants as program
+use Rattle.netfile.specs.Records.{Item, item_of, point, point_fits, record_fault, in_order, at_place}
+use Rattle.netfile.specs.Answers.{map_ok}
 use Rattle.netfile.proofs.Items.{decides_point}
-use Rattle.netfile.proofs.Layers.{fails}
 use Rattle.netfile.proofs.checks.point.Goals as goal
 
-pub returns-in-Some : goal.returns-in-Some
-returns-in-Some c =
-    let body = c.args.body.now in
-    let p = c.in-Some.point in
-    let e = c.in-Some.ensures in
-    let says : entry_of p ≡ record { values = get_or body 0 0; label = drop 1 body } = λ k. record { values = e.0 k; label = (e.1 ∙ c.label.ensures) k } in
-    let w : PointWithin (get_or body 0 0) (drop 1 body) = subst (λ (x : Entry). PointWithin x.values x.label) says p.within in
-    ap (λ x. Ok (point x)) says ∙
-    sym (cond-true (point_fits body) (Ok (point (record { values = get_or body 0 0; label = drop 1 body }))) (Err (record_fault c.args.place BadPoint)) ((decides_point body).1 w))
+-- a test that decides something false fails
+fails : {P : Type 0} (b : Bool) → Decides b P → (P → ⊥) → b ≡ false
+fails b d f = ⊎_elim (λ t. absurd (f (d.0 t))) (λ t. t) (cases_Bool b)
 
-pub returns-in-None : goal.returns-in-None
-returns-in-None c =
-    let body = c.args.body.now in
-    ap Err c.of_record.ensures ∙ sym (cond-false (point_fits body) (Ok (point (record { values = get_or body 0 0; label = drop 1 body }))) (Err (record_fault c.args.place BadPoint))
-    (fails (point_fits body) (decides_point body) (λ w. c.in-None.ensures (subst (PointWithin (get_or body 0 0)) (sym c.label.ensures) w))))
+module _ (place values : ℕ) (label : List ℕ) where
+  abbrev says : Item
+  says = point (record { values = values; label = label })
+
+  -- a point that could be made is what the record says, and one that could not is refused
+  made :
+      (o : Option Point) (m : Option Record) → MatchOption o (PointWithin values label → ⊥) (λ p. (p.values ≡ values) × (p.label ≡ label)) →
+      MatchOption o (m ≡ None) (λ p. m ≡ Some (program.Point p)) →
+      map_ok item_of (at_place place (ok_or m BadPoint)) ≡ in_order place (point_fits (values ∷ label)) BadPoint says
+  made None m h e =
+      rw e (sym (cond-false (point_fits (values ∷ label)) (Ok says) (Err (record_fault place BadPoint)) (fails (point_fits (values ∷ label)) (decides_point (values ∷ label)) h)))
+  made (Some p) m h e =
+      let same : entry_of p ≡ record { values = values; label = label } = λ k. record { values = h.0 k; label = h.1 k } in
+      let w : PointWithin values label = subst (λ (x : Entry). PointWithin x.values x.label) same p.within in
+      rw e (ap (λ x. Ok (point x)) same ∙ sym (cond-true (point_fits (values ∷ label)) (Ok says) (Err (record_fault place BadPoint)) ((decides_point (values ∷ label)).1 w)))
+
+pub returns : goal.returns
+returns c place = rw c.ok_or.ensures.value (made place c.args.values c.args.label c.new.result c.map.result c.new.ensures (search rules))

@@ -48,5 +48,5 @@ returns c =
     let m = c.at_most_one_count-pairs.result in
     let many : length (at_most_one ks) ≡ m =
     sym (c.at_most_one_count-pairs.ensures.value ∙ ap (λ ps. length (at_most_one (counts_of ps))) c.points-points.ensures) in
-    c.clause.ensures ∙
+    c.table_clause.ensures ∙
     sym (in_third (at_least_one ks) (at_most_one ks) (flat_map (table_clauses b.encoding ks) net.tables) i n long m many (omega arith) (omega arith))

@@ -1,11 +1,9 @@
-use Rattle.std.proofs.Common.{◌≡◌, length, take, vec_items, sum, ap, ◌∙◌, arith}
+use Rattle.std.proofs.Common.{length, ap, arith}
 use Rattle.std.specs.List.{flat_map}
 use Rattle.std.proofs.lemmas.List.FromFn.{length-map-range_with_len}
 use Rattle.theory.specs.Encodings.{some_clause, at_least_one, at_most_one, table_clauses}
 use Rattle.network.specs.Contents.{meaning}
 use Rattle.network.specs.Points.{counts_of}
-use Rattle.computed.proofs.AtTable.{tables_length}
-use Rattle.computed.proofs.Measured.{sum_lengths}
 use Rattle.computed.proofs.ThreeParts.{three_lengths}
 use Rattle.computed.proofs.book.ComputedBookClauseBook.count.Goals as goal
 
@@ -15,10 +13,6 @@ returns c =
     let net = meaning b.network.now in
     let ks = net.counts in
     let f = table_clauses b.encoding ks in
-    let us = c.tables-tables.result.now in
-    let all : length us ≡ length net.tables = omega (arith, tables_length us (vec_items b.network.now.tables) c.tables-tables.ensures.value) in
-    let tables : c.total.result ≡ length (flat_map f net.tables) =
-    c.total.ensures.value ∙ ap (λ n. sum (take n b.sizes)) all ∙ ap sum b.sized ∙ sum_lengths f net.tables in
     let some = ap (λ ps. length (counts_of ps)) c.points-points.ensures in
     let pairs = ap (λ ps. length (at_most_one (counts_of ps))) c.points-points.ensures in
     omega (arith, three_lengths (at_least_one ks) (at_most_one ks) (flat_map f net.tables), length-map-range_with_len (some_clause ks) 0 (length ks))

@@ -7,7 +7,7 @@ use Rattle.computed.proofs.half.HalfBookClauseBook.length.Goals as goal
 pub returns-then-i-values : goal.returns-then-i-values
 returns-then-i-values c =
     let e = c.args.self.now.end in
-    c.partners.ensures.value ∙ sym (ap length (half_at (counts_of e.points.now) e.side (table_of e.table.now) c.args.i (omega (arith, c.if-i-values.true, c.values.ensures.value))))
+    c.support_length.ensures ∙ sym (ap length (half_at (counts_of e.points.now) e.side (table_of e.table.now) c.args.i (omega (arith, c.if-i-values.true, c.values.ensures.value))))
 
 pub returns-else-i-values : goal.returns-else-i-values
 returns-else-i-values c =
