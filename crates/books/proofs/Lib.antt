@@ -2,3 +2,4 @@ pub mod Words
 pub mod Filling
 pub mod Reading
 pub mod Counting
+pub mod Collecting

@@ -4,3 +4,4 @@ pub mod Storing
 pub mod Halves
 pub mod Lists
 pub mod Scores
+pub mod Texts

@@ -1,10 +1,12 @@
-ghost use Rattle.std.specs.Prelude.{◌≡◌, ℕ, ◌^◌, ◌<◌, ◌≤◌, List, length};
+ghost use Rattle.std.specs.Prelude.{◌≡◌, ℕ, ◌^◌, ◌<◌, ◌≤◌, List, length, Some};
 ghost use Rattle.theory.specs.Encodings.{score, scores as scores_of};
 ghost use Rattle.books.specs.Stored.{IsStored, clauses_of};
 ghost use Rattle.books.specs.Halves.{book_end, better_of, Better};
 ghost use Rattle.books.specs.Scores.{ScoresOf};
+ghost use Rattle.books.specs.Texts.{scores_text};
 
 use crate::{ClauseBook, StoredBook, WordsRefusal};
+use std::fmt;
 use theory::Side;
 
 // A half as it lies in the caller's words, from word 0 to its end.
@@ -21,6 +23,14 @@ pub struct HalfScores {
     pub better: Side,
     pub lower: usize,
     pub higher: usize,
+}
+
+impl fmt::Display for HalfScores {
+    ghost output = { λ scores. Some (scores_text scores.better scores.lower scores.higher) };
+
+    fn fmt<W: fmt::Write>(&self, f: &mut fmt::Formatter<W>) -> fmt::Result {
+        write!(f, "{} {} {}", self.better, self.lower, self.higher)
+    }
 }
 
 // The score of a clause of so many literals.
@@ -71,6 +81,7 @@ pub fn better<'a>(low: &'a [u32], high: &'a [u32]) -> Result<Half<'a>, WordsRefu
     let lower = StoredBook::new(low)?;
     let higher = StoredBook::new(high)?;
     let side = scores(&lower, &higher).better;
+    // a match: there are just these two sides
     let words = match side {
         Side::Lower => &low[..lower.end()],
         Side::Higher => &high[..higher.end()],

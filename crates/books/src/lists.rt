@@ -38,10 +38,7 @@ fn to_list<B: ClauseBook>(heap: Global, book: &B, i: usize) -> Result<Vec<u32>, 
 pub fn to_lists<B: ClauseBook>(heap: Global, book: &B) -> Result<Vec<Vec<u32>>, AllocError>
     ensures { IfOk result (λ v. lists_of v.items ≡ B.clauses book.now) }
 {
-    let mut lists = Vec::new(heap);
-    // a `for`: each list and each push may fail, and a chain would say so in no fewer words
-    for i in 0..book.count() {
-        lists.push(to_list(heap, book, i)?)?;
-    }
-    Ok(lists)
+    (0..book.count())
+        .map(|i| to_list(heap, book, i))
+        .try_collect(heap)
 }

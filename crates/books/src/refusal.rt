@@ -1,6 +1,10 @@
-ghost use Rattle.std.specs.Prelude.{◌≡◌};
+ghost use Rattle.std.specs.Prelude.{◌≡◌, Some};
+ghost use Rattle.theory.specs.Names.{refusal_text};
 ghost use Rattle.books.specs.Refusals.{number_of, halves_number_of};
 ghost use Rattle.books.specs.declared.refusal.HalvesRefusal.TheVariants.{Words};
+
+use std::error::Error;
+use std::fmt;
 
 // Why a call on words was refused.
 #[derive(Clone, Copy, Debug, PartialEq, Eq)]
@@ -24,6 +28,17 @@ impl WordsRefusal {
     }
 }
 
+// As of each refusal: one impl for all types that have a number may not be written, since `Display` is not ours.
+impl fmt::Display for WordsRefusal {
+    ghost output = { λ r. Some (refusal_text (number_of r)) };
+
+    fn fmt<W: fmt::Write>(&self, f: &mut fmt::Formatter<W>) -> fmt::Result {
+        write!(f, "refused {}", self.number())
+    }
+}
+
+impl Error for WordsRefusal {}
+
 // Why a call on the halves of a table was refused.
 #[derive(Clone, Copy, Debug, PartialEq, Eq)]
 pub enum HalvesRefusal {
@@ -45,6 +60,17 @@ impl HalvesRefusal {
         }
     }
 }
+
+impl fmt::Display for HalvesRefusal {
+    ghost output = { λ r. Some (refusal_text (halves_number_of r)) };
+
+    fn fmt<W: fmt::Write>(&self, f: &mut fmt::Formatter<W>) -> fmt::Result {
+        let number = self.number();
+        write!(f, "refused {number}")
+    }
+}
+
+impl Error for HalvesRefusal {}
 
 impl From<WordsRefusal> for HalvesRefusal {
     ghost from_gives = { λ refusal r. r ≡ Words refusal };

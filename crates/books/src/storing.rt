@@ -5,6 +5,7 @@ ghost use Rattle.books.specs.Storing.{Stores, Holds, StoresBoth};
 
 use crate::{ClauseBook, WordsRefusal};
 
+// Books are stored in words of the caller, by a rule of the project: a writer takes no memory.
 // How many words a book needs: one, one a clause and one a literal.
 pub fn words_needed<B: ClauseBook>(book: &B) -> usize
     requires { words_needed (B.clauses book.now) < 2 ^ 32 }

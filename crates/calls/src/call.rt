@@ -5,7 +5,8 @@ use crate::CallRefusal;
 use std::fmt;
 use theory::Mark;
 
-// What may be asked of a session. A value is named by its point and its number in that point.
+// What may be asked of a session. A value is named by its point and its number in that point: two numbers, since a caller
+// would make a struct of both for each call, and the numbering would take it apart at once.
 #[derive(Clone, Copy, Debug, PartialEq, Eq)]
 pub enum Call {
     // choose the value

@@ -1,5 +1,9 @@
-ghost use Rattle.std.specs.Prelude.{◌≡◌};
+ghost use Rattle.std.specs.Prelude.{◌≡◌, Some};
+ghost use Rattle.theory.specs.Names.{refusal_text};
 ghost use Rattle.calls.specs.Refusals.{number_of};
+
+use std::error::Error;
+use std::fmt;
 
 // Why a call of a session was refused.
 #[derive(Clone, Copy, Debug, PartialEq, Eq)]
@@ -26,3 +30,14 @@ impl CallRefusal {
         *self as u8
     }
 }
+
+// As of each refusal: one impl for all types that have a number may not be written, since `Display` is not ours.
+impl fmt::Display for CallRefusal {
+    ghost output = { λ refusal. Some (refusal_text (number_of refusal)) };
+
+    fn fmt<W: fmt::Write>(&self, f: &mut fmt::Formatter<W>) -> fmt::Result {
+        write!(f, "refused {}", self.number())
+    }
+}
+
+impl Error for CallRefusal {}

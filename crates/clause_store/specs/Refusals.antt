@@ -1,5 +1,6 @@
 -- Why a clause book is not opened.
 use Rattle.std.specs.Prelude.{ℕ, List, Some, None, Option, Ok, Err, Result}
+use Rattle.theory.specs.Names.{refusal_text, memory_text}
 use Rattle.clause_store.specs.declared.error.OpenError.{OpenError}
 use Rattle.clause_store.specs.declared.error.OpenError.TheVariants.{Unfit, OutOfMemory}
 use Rattle.clause_store.specs.Fitness.{Fit}
@@ -8,6 +9,11 @@ use Rattle.clause_store.specs.Fitness.{Fit}
 abbrev pub number_of : OpenError → Option ℕ
 number_of Unfit = Some 20
 number_of OutOfMemory = None
+
+-- what is written for an error
+abbrev pub open_error_text : OpenError → List ℕ
+open_error_text Unfit = refusal_text 20
+open_error_text OutOfMemory = memory_text
 
 -- the error that says that there was no memory
 abbrev pub out_of_memory : OpenError

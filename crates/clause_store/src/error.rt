@@ -1,7 +1,9 @@
-ghost use Rattle.std.specs.Prelude.{◌≡◌};
-ghost use Rattle.clause_store.specs.Refusals.{out_of_memory, number_of};
+ghost use Rattle.std.specs.Prelude.{◌≡◌, Some};
+ghost use Rattle.clause_store.specs.Refusals.{out_of_memory, number_of, open_error_text};
 
 use std::alloc::{AllocError, AllocFailed};
+use std::error::Error;
+use std::fmt;
 
 // Why a clause book was not opened.
 #[derive(Clone, Copy, Debug, PartialEq, Eq)]
@@ -24,6 +26,19 @@ impl OpenError {
         }
     }
 }
+
+impl fmt::Display for OpenError {
+    ghost output = { λ e. Some (open_error_text e) };
+
+    fn fmt<W: fmt::Write>(&self, f: &mut fmt::Formatter<W>) -> fmt::Result {
+        match self.number() {
+            Some(number) => write!(f, "refused {number}"),
+            None => f.write_str("out of memory"),
+        }
+    }
+}
+
+impl Error for OpenError {}
 
 // By hand, as for each error type: a derived conversion has no contract that names the variant.
 impl From<AllocError> for OpenError {

@@ -5,6 +5,7 @@ ghost use Rattle.books.specs.Lists.{lists_of};
 
 use crate::error::OpenError;
 use books::ClauseBook;
+use literals::Literal;
 use std::alloc::Global;
 
 // The most clauses of a list.
@@ -14,19 +15,19 @@ const MAX_CLAUSES: usize = 100000;
 const MAX_LITERALS: usize = 64;
 
 // Whether a literal is of the value.
-fn names_value(literals: &[u32], value: u32) -> bool
+fn names_value(literals: &[Literal], value: usize) -> bool
     ensures { MatchBool result (NamesValue literals.now value) (NamesValue literals.now value → ⊥) }
 {
-    literals.iter().any(|literal| *literal / 2 == value)
+    literals.iter().any(|literal| literal.value() == value)
 }
 
 // Clause i, where it is fit.
 fn read_clause<B: ClauseBook>(
     heap: Global,
     book: &B,
-    values: usize,
+    values: u32,
     i: usize,
-) -> Result<Vec<u32>, OpenError>
+) -> Result<Vec<Literal>, OpenError>
     ensures fit { HoldsExactly (FitClause values (slice_index_or (B.clauses book.now) i [])) result }
     ensures clause { IfOk result (λ c. c.items ≡ slice_index_or (B.clauses book.now) i []) }
 {
@@ -37,9 +38,9 @@ fn read_clause<B: ClauseBook>(
     let mut clause = Vec::new(heap);
     // a `for`: a clause that is not fit is refused before more of it is in memory
     for j in 0..size {
-        let literal = book.literal(i, j);
-        let value = literal / 2;
-        if value as usize >= values || names_value(&clause, value) {
+        let literal = Literal::from(book.literal(i, j));
+        let value = literal.value();
+        if value >= values as usize || names_value(&clause, value) {
             return Err(OpenError::Unfit);
         }
         clause.push(literal)?;
@@ -51,8 +52,8 @@ fn read_clause<B: ClauseBook>(
 pub(crate) fn gather<B: ClauseBook>(
     heap: Global,
     book: &B,
-    values: usize,
-) -> Result<Vec<Vec<u32>>, OpenError>
+    values: u32,
+) -> Result<Vec<Vec<Literal>>, OpenError>
     ensures fit { FitsExactly values (B.clauses book.now) result }
     ensures clauses { IfOk result (λ v. lists_of v.items ≡ B.clauses book.now) }
 {
@@ -60,10 +61,8 @@ pub(crate) fn gather<B: ClauseBook>(
     if count > MAX_CLAUSES {
         return Err(OpenError::Unfit);
     }
-    let mut clauses = Vec::new(heap);
-    // a `for`, beside `books::to_lists`: each clause is tested as it is read
-    for i in 0..count {
-        clauses.push(read_clause(heap, book, values, i)?)?;
-    }
-    Ok(clauses)
+    // beside `books::to_lists`, since each clause is tested as it is read
+    (0..count)
+        .map(|i| read_clause(heap, book, values, i))
+        .try_collect(heap)
 }

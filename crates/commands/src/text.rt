@@ -1,11 +1,11 @@
 ghost use Rattle.std.specs.Prelude.{◌≡◌, [], ◌++◌, IfOk, string_bytes, OnOk, slice_index_or};
-ghost use Rattle.commands.specs.Texts.{place_text, refused_text, clause_text, clauses_text};
+ghost use Rattle.commands.specs.Texts.{place_text, clause_text, clauses_text};
 
 use books::ClauseBook;
 use std::alloc::{AllocError, Global};
 use std::fmt::Write;
 
-// `place` and `refused` are functions and no `Display`: what they show are numbers and options of numbers.
+// `place` is a function and no `Display`: `Option` is the standard library's.
 // A point and a value, or that there is none.
 pub fn place(heap: Global, found: Option<(usize, usize)>) -> Result<String, AllocError>
     ensures { IfOk result (λ s. string_bytes s ≡ place_text found) }
@@ -14,13 +14,6 @@ pub fn place(heap: Global, found: Option<(usize, usize)>) -> Result<String, Allo
         Some((p, v)) => format!(in heap; "{p} {v}"),
         None => String::from_str(heap, "none"),
     }
-}
-
-// A refusal's number and place.
-pub fn refused(heap: Global, number: u8, place: usize) -> Result<String, AllocError>
-    ensures { IfOk result (λ s. string_bytes s ≡ refused_text number place) }
-{
-    format!(in heap; "refused {number} at {place}")
 }
 
 // Adds a line for clause i, its literals one space apart.

@@ -2,7 +2,6 @@ ghost use Rattle.std.specs.Prelude.{◌≡◌, slice_get};
 ghost use Rattle.std.specs.Option.{option_map};
 ghost use Rattle.theory.specs.Encodings.{clauses};
 ghost use Rattle.network.specs.Contents.{meaning};
-ghost use Rattle.network.specs.Points.{counts_of};
 ghost use Rattle.computed.specs.Ids.{clause_of};
 ghost use Rattle.computed.specs.Sizes.{Sized};
 
@@ -38,12 +37,12 @@ impl<'a> ComputedBook<'a> {
 
     // Which clause stands at the place i.
     fn locate(&self, i: usize) -> Option<ClauseId<'a>>
-        ensures { option_map (clause_of (counts_of self.now.network.now.points)) result ≡ slice_get (clauses self.now.encoding (meaning self.now.network.now)) i }
+        ensures { option_map clause_of result ≡ slice_get (clauses self.now.encoding (meaning self.now.network.now)) i }
     {
         let points = self.network.points();
         let some = points.len();
         if i < some {
-            return Some(ClauseId::SomeOf(i));
+            return Some(ClauseId::SomeOf { points, point: i });
         }
         let pairs = point_pairs::at_most_one_count(points);
         if i - some < pairs {
@@ -62,14 +61,17 @@ impl<'a> ClauseBook for ComputedBook<'a> {
     }
 
     fn length(&self, i: usize) -> usize {
-        let points = self.network.points();
         // 0 for what is missing, by the interface, here and below
-        self.locate(i).map_or(0, |clause| clause.length(points))
+        // `as_ref`, since the check takes no value that holds both references and a type with a model into a closure; the two bodies are
+        // those of a half's book, which finds its clause otherwise
+        self.locate(i).as_ref().map_or(0, |clause| clause.length())
     }
 
     fn literal(&self, i: usize, j: usize) -> u32 {
-        let points = self.network.points();
-        self.locate(i).map_or(0, |clause| clause.literal(points, j))
+        self.locate(i)
+            .as_ref()
+            .and_then(|clause| clause.literal(j))
+            .map_or(0, u32::from)
     }
 }
 

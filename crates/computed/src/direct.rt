@@ -11,8 +11,9 @@ ghost use Rattle.computed.specs.Ids.{clause_of};
 
 use crate::id::ClauseId;
 use crate::table_clauses::TableClauses;
+use literals::Literal;
 use network::blocks;
-use partners::{End, literal};
+use partners::End;
 use theory::Side;
 
 impl<'a> TableClauses<'a> {
@@ -25,6 +26,7 @@ impl<'a> TableClauses<'a> {
         End::new(self.points, self.table, Side::Lower)
     }
 
+    // The count and the search of values that are barred stay beside those of partners in `End`: they look for the contrary.
     // How many values of the higher point the table does not allow beside the lower point's value i.
     fn barred_count(&self, i: usize) -> usize
         ensures value { result ≡ length (barred_with (counts_of self.now.points.now) (table_of self.now.table.now) i) }
@@ -57,17 +59,17 @@ impl<'a> TableClauses<'a> {
     // Clause n of those that bar the lower point's value i with a value of the higher point.
     fn barred(&self, i: usize, n: usize) -> Option<ClauseId<'a>>
         requires { i < most_values }
-        ensures { option_map (clause_of (counts_of self.now.points.now)) result ≡ slice_get (barred_with (counts_of self.now.points.now) (table_of self.now.table.now) i) n }
+        ensures { option_map clause_of result ≡ slice_get (barred_with (counts_of self.now.points.now) (table_of self.now.table.now) i) n }
     {
         let j = self.barred_value(i, n)?;
         let low = self.points.offset(self.table.low()) + i;
         let high = self.points.offset(self.table.high()) + j;
-        Some(ClauseId::Two(literal::is_out(low), literal::is_out(high)))
+        Some(ClauseId::Two(Literal::is_out(low), Literal::is_out(high)))
     }
 
     // Direct clause n of the table.
     pub fn direct(&self, n: usize) -> Option<ClauseId<'a>>
-        ensures { option_map (clause_of (counts_of self.now.points.now)) result ≡ slice_get (direct_clauses (counts_of self.now.points.now) (table_of self.now.table.now)) n }
+        ensures { option_map clause_of result ≡ slice_get (direct_clauses (counts_of self.now.points.now) (table_of self.now.table.now)) n }
     {
         let values = self.points.count(self.table.low());
         let (i, left) = blocks::locate(values, |i| self.barred_count(i), n)?;

@@ -1,6 +1,5 @@
 ghost use Rattle.std.specs.Prelude.{◌≡◌, slice_get};
 ghost use Rattle.std.specs.Option.{option_map};
-ghost use Rattle.network.specs.Points.{counts_of};
 ghost use Rattle.partners.specs.Ends.{half_of};
 ghost use Rattle.computed.specs.Ids.{clause_of};
 
@@ -30,7 +29,7 @@ impl<'a> HalfBook<'a> {
 
     // Which clause stands at the place n.
     pub(crate) fn clause(&self, n: usize) -> Option<ClauseId<'a>>
-        ensures { option_map (clause_of (counts_of self.now.end.points.now)) result ≡ slice_get (half_of self.now.end) n }
+        ensures { option_map clause_of result ≡ slice_get (half_of self.now.end) n }
     {
         if n < self.end.values() {
             Some(ClauseId::Support(self.end, n as u8))
@@ -49,18 +48,14 @@ impl<'a> ClauseBook for HalfBook<'a> {
 
     fn length(&self, i: usize) -> usize {
         // 0 for what is missing, by the interface, here and below
-        if i < self.end.values() {
-            self.end.support_length(i)
-        } else {
-            0
-        }
+        // `as_ref`, since the check takes no value that holds both references and a type with a model into a closure
+        self.clause(i).as_ref().map_or(0, |clause| clause.length())
     }
 
     fn literal(&self, i: usize, j: usize) -> u32 {
-        if i < self.end.values() {
-            self.end.support_literal(i as u8, j)
-        } else {
-            0
-        }
+        self.clause(i)
+            .as_ref()
+            .and_then(|clause| clause.literal(j))
+            .map_or(0, u32::from)
     }
 }

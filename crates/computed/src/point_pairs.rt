@@ -6,8 +6,8 @@ ghost use Rattle.network.specs.Points.{counts_of};
 ghost use Rattle.computed.specs.Ids.{clause_of};
 
 use crate::id::ClauseId;
+use literals::Literal;
 use network::{PointList, blocks};
-use partners::literal;
 
 // How many pairs of values the point has, each with a clause that not both are in.
 fn not_two_count(points: &PointList, p: usize) -> usize
@@ -28,18 +28,18 @@ pub(crate) fn at_most_one_count(points: &PointList) -> usize
 
 // Clause n of those that no two values of the point are in.
 fn not_two<'a>(points: &'a PointList, p: usize, n: usize) -> Option<ClauseId<'a>>
-    ensures { option_map (clause_of (counts_of points.now)) result ≡ slice_get (not_two (counts_of points.now) p) n }
+    ensures { option_map clause_of result ≡ slice_get (not_two (counts_of points.now) p) n }
 {
     let count = points.count(p);
     let (i, left) = blocks::locate(count, |i| count - (i + 1), n)?;
     let value = points.offset(p) + i;
     let other = value + 1 + left;
-    Some(ClauseId::Two(literal::is_out(value), literal::is_out(other)))
+    Some(ClauseId::Two(Literal::is_out(value), Literal::is_out(other)))
 }
 
 // At-most-one clause n.
 pub(crate) fn at_most_one<'a>(points: &'a PointList, n: usize) -> Option<ClauseId<'a>>
-    ensures { option_map (clause_of (counts_of points.now)) result ≡ slice_get (at_most_one (counts_of points.now)) n }
+    ensures { option_map clause_of result ≡ slice_get (at_most_one (counts_of points.now)) n }
 {
     let (p, left) = blocks::locate(points.len(), |p| not_two_count(points, p), n)?;
     not_two(points, p, left)

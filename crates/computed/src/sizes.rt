@@ -34,7 +34,7 @@ pub(crate) fn sizes(network: &Network, encoding: Encoding) -> [u16; MAX_TABLES]
 {
     let points = network.points();
     let mut sizes = [0u16; MAX_TABLES];
-    // by number: the array has more places than there are tables, and no chain fills an array
+    // by place: after a loop over `iter_mut` and an adapter a proof knows how many items there are, and not which
     for (k, table) in network.tables().iter().enumerate() {
         sizes[k] = TableClauses { points, table }.size(encoding) as u16;
     }

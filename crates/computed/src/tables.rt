@@ -18,7 +18,7 @@ use theory::{Encoding, Side};
 impl<'a> TableClauses<'a> {
     // Clause n of both halves of the table.
     fn of_halves(&self, n: usize) -> Option<ClauseId<'a>>
-        ensures { option_map (clause_of (counts_of self.now.points.now)) result ≡ slice_get (table_clauses Support (counts_of self.now.points.now) (table_of self.now.table.now)) n }
+        ensures { option_map clause_of result ≡ slice_get (table_clauses Support (counts_of self.now.points.now) (table_of self.now.table.now)) n }
     {
         let lower = self.half(Side::Lower);
         let first = lower.count();
@@ -31,7 +31,7 @@ impl<'a> TableClauses<'a> {
 
     // Clause n of the table.
     fn clause(&self, encoding: Encoding, n: usize) -> Option<ClauseId<'a>>
-        ensures { option_map (clause_of (counts_of self.now.points.now)) result ≡ slice_get (table_clauses encoding (counts_of self.now.points.now) (table_of self.now.table.now)) n }
+        ensures { option_map clause_of result ≡ slice_get (table_clauses encoding (counts_of self.now.points.now) (table_of self.now.table.now)) n }
     {
         // a match: the encodings are an enum, and each case is one call
         match encoding {
@@ -45,7 +45,7 @@ impl<'a> TableClauses<'a> {
 impl<'a> ComputedBook<'a> {
     // Clause n of the tables, by how many clauses each has.
     pub(crate) fn table_clause(&self, n: usize) -> Option<ClauseId<'a>>
-        ensures { option_map (clause_of (counts_of self.now.network.now.points)) result ≡ slice_get (of_tables self.now.encoding (meaning self.now.network.now)) n }
+        ensures { option_map clause_of result ≡ slice_get (of_tables self.now.encoding (meaning self.now.network.now)) n }
     {
         let tables = self.network.tables();
         let (k, left) = blocks::locate(tables.len(), |k| self.sizes[k] as usize, n)?;

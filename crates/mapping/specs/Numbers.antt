@@ -1,5 +1,7 @@
--- The numbers of what can go wrong with a map.
-use Rattle.std.specs.Prelude.{ℕ}
+-- The numbers and the texts of what can go wrong with a map.
+use Rattle.std.specs.Prelude.{ℕ, List}
+use Rattle.theory.specs.Names.{refusal_text, memory_text}
+use Rattle.netfile.specs.Texts.{fault_text}
 use Rattle.network.specs.Refusals.{number_of as refusal_number}
 use Rattle.netfile.specs.declared.loading.ReadError.{ReadError}
 use Rattle.netfile.specs.declared.loading.ReadError.TheVariants.{Refused as ReadRefused, OutOfMemory as ReadOutOfMemory}
@@ -11,6 +13,12 @@ abbrev pub number_of : MapError → ℕ
 number_of (Refused f) = refusal_number f.refusal
 number_of TooShort = 21
 number_of OutOfMemory = 99
+
+-- what is written for an error
+abbrev pub map_error_text : MapError → List ℕ
+map_error_text (Refused f) = fault_text f
+map_error_text TooShort = refusal_text 21
+map_error_text OutOfMemory = memory_text
 
 -- what an error of reading is here
 abbrev pub from_read : ReadError → MapError

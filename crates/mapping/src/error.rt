@@ -1,10 +1,12 @@
-ghost use Rattle.std.specs.Prelude.{◌≡◌};
-ghost use Rattle.mapping.specs.Numbers.{number_of, from_read, too_short, out_of_memory};
+ghost use Rattle.std.specs.Prelude.{◌≡◌, Some};
+ghost use Rattle.mapping.specs.Numbers.{number_of, map_error_text, from_read, too_short, out_of_memory};
 
 use netfile::ReadError;
 use netfile::fault::Fault;
 use page::PageRefusal;
 use std::alloc::AllocError;
+use std::error::Error;
+use std::fmt;
 
 // Why there is no page.
 #[derive(Clone, Copy, Debug, PartialEq, Eq)]
@@ -30,6 +32,20 @@ impl MapError {
         }
     }
 }
+
+impl fmt::Display for MapError {
+    ghost output = { λ e. Some (map_error_text e) };
+
+    fn fmt<W: fmt::Write>(&self, f: &mut fmt::Formatter<W>) -> fmt::Result {
+        match self {
+            MapError::Refused(fault) => write!(f, "{fault}"),
+            MapError::TooShort => write!(f, "{}", PageRefusal::TooShort),
+            MapError::OutOfMemory => f.write_str("out of memory"),
+        }
+    }
+}
+
+impl Error for MapError {}
 
 impl From<ReadError> for MapError {
     ghost from_gives = { λ e r. r ≡ from_read e };

@@ -1,8 +1,7 @@
 // Reads a network file from standard input, opens it over its support clauses, and writes its page.
 #![tactic(auto)]
 
-use anyhow::{Result, bail};
-use commands::text;
+use anyhow::Result;
 use mapping::MapError;
 use std::io::{Read, Write};
 
@@ -16,11 +15,9 @@ fn run(rt: &HostRuntime) -> Result<()> {
     let mut page = [0u8; MOST_BYTES];
     match mapping::write_map(rt.alloc(), &file, &mut page) {
         Ok(length) => rt.stdout().write_all(&page[..length])?,
-        Err(MapError::Refused(fault)) => {
-            rt.println(text::refused(rt.alloc(), fault.refusal.number(), fault.place)?)?;
-        }
-        Err(MapError::TooShort) => bail!("the page is too long"),
-        Err(MapError::OutOfMemory) => bail!("out of memory"),
+        Err(MapError::Refused(fault)) => rt.println(fault)?,
+        // want of memory: that the page is too long does not happen, since there is room for the longest
+        Err(error) => return Err(error.into()),
     }
     Ok(())
 }

@@ -3,9 +3,11 @@ use Rattle.std.proofs.Common.{◌≡◌, ℕ, suc, ◌+◌, cond, eqb, List, [],
 use Rattle.std.proofs.lemmas.List.{length-append, take_at, take-append-drop, length-take-le}
 use Rattle.std.proofs.lemmas.Bool.{cases_lt, lt-ltb, le-ltb, cond_both, eqb-true}
 use Rattle.network.specs.declared.refusal.Refusal.TheVariants.{Truncated, UnknownKind}
-use Rattle.netfile.specs.declared.fault.ByteFault.{ByteFault}
+use Rattle.netfile.specs.declared.fault.Fault.{Fault}
+use Rattle.netfile.specs.declared.fault.Layer.TheVariants.{Byte}
 use Rattle.netfile.specs.declared.record.Kind.{Kind}
 use Rattle.netfile.specs.declared.record.Kind.TheVariants.{Head, Point, Table, Pair, End}
+use Rattle.netfile.specs.Faults.{fault_in}
 use Rattle.netfile.specs.Bytes.{code_of, body_length, kind_of, Raw, body_of, raw_at}
 use Rattle.netfile.specs.Conditions.{Begins, StopsShort}
 
@@ -55,19 +57,19 @@ front (b ∷ bs) = go (kind_of b) refl
         (cases_lt (length bs) (body_length k))
 
 -- the same fault at equal places
-cut : (p q : ℕ) → p ≡ q → ◌≡◌ {A = Result Raw ByteFault} (Err (record { refusal = Truncated; place = p })) (Err (record { refusal = Truncated; place = q }))
+cut : (p q : ℕ) → p ≡ q → ◌≡◌ {A = Result Raw Fault} (Err (fault_in Byte p Truncated)) (Err (fault_in Byte q Truncated))
 cut p q e = rw e refl
 
 -- what the byte layer says where the bytes are cut short, begin with an unknown kind, or begin with a whole record
-pub raw_short : (place : ℕ) (bs : List ℕ) → StopsShort bs → raw_at place bs ≡ Err (record { refusal = Truncated; place = place + length bs })
+pub raw_short : (place : ℕ) (bs : List ℕ) → StopsShort bs → raw_at place bs ≡ Err (fault_in Byte (place + length bs) Truncated)
 raw_short place bs (inl e) = rw e (cut place (place + 0) (omega arith))
 raw_short place bs (inr (k, rest, e, l)) =
     rw (e, kind_of_code k, lt-ltb (length rest) (body_length k) l) (cut (place + 1 + length rest) (place + suc (length rest)) (omega arith))
 
-pub raw_unknown : (place b : ℕ) (rest : List ℕ) → Unknown b → raw_at place (b ∷ rest) ≡ Err (record { refusal = UnknownKind; place = place })
+pub raw_unknown : (place b : ℕ) (rest : List ℕ) → Unknown b → raw_at place (b ∷ rest) ≡ Err (fault_in Byte place UnknownKind)
 raw_unknown place b rest u = go (kind_of b) refl
   where
-    go : (o : Option Kind) → kind_of b ≡ o → body_of place o rest ≡ Err (record { refusal = UnknownKind; place = place })
+    go : (o : Option Kind) → kind_of b ≡ o → body_of place o rest ≡ Err (fault_in Byte place UnknownKind)
     go None e = refl
     go (Some k) e = absurd (u k (sym (code_of_kind b k e)))
 

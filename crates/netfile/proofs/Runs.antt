@@ -7,9 +7,10 @@ use Rattle.netfile.specs.declared.fault.Fault.{Fault}
 use Rattle.netfile.specs.declared.fault.Layer.TheVariants.{Byte}
 use Rattle.netfile.specs.declared.record.Expectation.{Expectation}
 use Rattle.netfile.specs.declared.record.Expectation.TheVariants.{Start, Points, Tables, Pairs, Nothing}
+use Rattle.netfile.specs.Faults.{fault_in}
 use Rattle.netfile.specs.Bytes.{body_length}
 use Rattle.netfile.specs.Records.{Item, head, point, table, pair, end, kind_of_item}
-use Rattle.netfile.specs.Reading.{State, after, next_at, contents, at_end, go_on, read_from}
+use Rattle.netfile.specs.Reading.{State, after, next_at, at_end, go_on, read_from}
 use Rattle.netfile.specs.Drafts.{ended}
 
 -- passing over bytes is dropping them
@@ -43,7 +44,7 @@ module _ (bs : List ℕ) (s : State) (p : ℕ) where
 
   -- the fault of a file that stops before its end record
   abbrev late : Fault
-  late = record { refusal = Truncated; layer = Byte; place = p }
+  late = fault_in Byte p Truncated
 
   at_stop : (x : Expectation) (f : Fault) → ended x ≡ false → Err f ≡ next_at x s p [] → at_end x s p ≡ Err f
   at_stop Start f u e = let same : late ≡ f = cc in ap Err same
@@ -68,17 +69,6 @@ module _ (bs : List ℕ) (s : State) (p : ℕ) where
           unended true true u t = u
           unended true false u t = sym t
           unended false b u t = refl
-
-  at_done : (x : Expectation) → ended x ≡ true → at_end x s p ≡ Ok (contents s)
-  at_done Start u = absurd (both_ways (ended Start) refl u)
-  at_done Points u = absurd (both_ways (ended Points) refl u)
-  at_done Tables u = absurd (both_ways (ended Tables) refl u)
-  at_done Pairs u = absurd (both_ways (ended Pairs) refl u)
-  at_done Nothing u = refl
-
-  -- after the end record and the last byte the network is what was listed
-  pub read_end : ended s.expect ≡ true → length bs ≤ p → read_from s p 0 (drop p bs) ≡ Ok (contents s)
-  read_end u h = at_drop_all (read_from s p 0) bs p h ∙ at_done s.expect u
 
 -- a record adds at most one pair
 pub after_pairs : (s : State) (x : Item) → (after s x).pairs ≤ s.pairs + 1

@@ -14,6 +14,7 @@ use Rattle.netfile.specs.declared.fault.Fault.{Fault}
 use Rattle.netfile.specs.declared.fault.Layer.TheVariants.{Record as RecordLayer}
 use Rattle.netfile.specs.declared.record.Kind.{Kind}
 use Rattle.netfile.specs.declared.record.Kind.TheVariants.{Head, Point, Table, Pair, End}
+use Rattle.netfile.specs.Faults.{fault_in}
 use Rattle.netfile.specs.Bytes.{code_of}
 use Rattle.netfile.specs.Records.{Item, head, point, table, pair, end, kind_of_item, head_fits, point_fits, table_fits, in_order, checked}
 use Rattle.netfile.specs.Reading.{State, may_come, has_kind, last_table, has_values, objection_to, objection, unless, admitted}
@@ -109,7 +110,7 @@ module _ (s : State) (k : Kind) (body bs : List ℕ) (begins : Begins k body bs)
 
 -- the fault of a refusal at a whole record
 abbrev pub fault_of : ℕ → Refusal → Fault
-fault_of place r = record { refusal = r; layer = layer_of r; place = place }
+fault_of place r = fault_in (layer_of r) place r
 
 -- the item unless it is refused
 abbrev pub outcome : ℕ → Option Refusal → Item → Result Item Fault

@@ -2,9 +2,11 @@
 use Rattle.std.specs.Prelude.{ℕ, ◌+◌, cond, List, [], ◌∷◌, length, take, Some, None, Ok, Err, Option, Result, ◌==◌, nat_lt}
 use Rattle.network.specs.declared.refusal.Refusal.{Refusal}
 use Rattle.network.specs.declared.refusal.Refusal.TheVariants.{Truncated, UnknownKind}
-use Rattle.netfile.specs.declared.fault.ByteFault.{ByteFault}
+use Rattle.netfile.specs.declared.fault.Fault.{Fault}
+use Rattle.netfile.specs.declared.fault.Layer.TheVariants.{Byte}
 use Rattle.netfile.specs.declared.record.Kind.{Kind}
 use Rattle.netfile.specs.declared.record.Kind.TheVariants.{Head, Point, Table, Pair, End}
+use Rattle.netfile.specs.Faults.{fault_in}
 
 -- the byte that stands for a kind
 abbrev pub code_of : Kind → ℕ
@@ -42,14 +44,14 @@ pub record Raw : Type 0 where
   pub body : List ℕ
 
 -- the body after a byte of kind at the place: refused where the kind is unknown, or where the file stops short
-abbrev pub body_of : ℕ → Option Kind → List ℕ → Result Raw ByteFault
-body_of place None bs = Err (record { refusal = UnknownKind; place = place })
+abbrev pub body_of : ℕ → Option Kind → List ℕ → Result Raw Fault
+body_of place None bs = Err (fault_in Byte place UnknownKind)
 body_of place (Some k) bs =
     cond (nat_lt (length bs) (body_length k))
-    (Err (record { refusal = Truncated; place = place + 1 + length bs }))
+    (Err (fault_in Byte (place + 1 + length bs) Truncated))
     (Ok (record { kind = k; body = take (body_length k) bs }))
 
 -- the record at the front of the bytes, which begin at the place
-abbrev pub raw_at : ℕ → List ℕ → Result Raw ByteFault
-raw_at place [] = Err (record { refusal = Truncated; place = place })
+abbrev pub raw_at : ℕ → List ℕ → Result Raw Fault
+raw_at place [] = Err (fault_in Byte place Truncated)
 raw_at place (b ∷ bs) = body_of place (kind_of b) bs

@@ -1,3 +1,4 @@
+pub mod Faults
 pub mod Bytes
 pub mod Records
 pub mod Reading
@@ -6,3 +7,4 @@ pub mod Conditions
 pub mod Answers
 pub mod Drafts
 pub mod Outcomes
+pub mod Texts

@@ -7,13 +7,13 @@ use Rattle.network.specs.declared.refusal.Refusal.TheVariants.{Truncated, Mispla
 use Rattle.network.specs.Contents.{Contents}
 use Rattle.network.specs.Points.{Entry, values_of}
 use Rattle.network.specs.Tables.{no_pairs, with_allowed}
-use Rattle.netfile.specs.declared.fault.RecordFault.{RecordFault}
 use Rattle.netfile.specs.declared.fault.Fault.{Fault}
 use Rattle.netfile.specs.declared.fault.Layer.TheVariants.{Byte, Network as NetworkLayer}
 use Rattle.netfile.specs.declared.record.Kind.{Kind}
 use Rattle.netfile.specs.declared.record.Kind.TheVariants.{Head, Point, Table, Pair, End}
 use Rattle.netfile.specs.declared.record.Expectation.{Expectation}
 use Rattle.netfile.specs.declared.record.Expectation.TheVariants.{Start, Points, Tables, Pairs, Nothing}
+use Rattle.netfile.specs.Faults.{fault_in}
 use Rattle.netfile.specs.Bytes.{code_of, body_length}
 use Rattle.netfile.specs.Records.{Item, head, point, table, pair, end, kind_of_item, record_at}
 
@@ -120,23 +120,15 @@ after s (end n) =
       pairs = s.pairs;
     }
 
--- a fault of the byte or the record layer, carried up
-abbrev pub from_record : RecordFault → Fault
-from_record f = record { refusal = f.refusal; layer = f.layer; place = f.place }
-
--- a fault of the network layer
-abbrev pub network_fault : ℕ → Refusal → Fault
-network_fault place x = record { refusal = x; layer = NetworkLayer; place = place }
-
 -- the item where nothing is wrong with it
 abbrev pub unless : ℕ → Option Refusal → Item → Result Item Fault
 unless place None x = Ok x
-unless place (Some r) x = Err (network_fault place r)
+unless place (Some r) x = Err (fault_in NetworkLayer place r)
 
 -- the network layer after the record layer
-abbrev pub admitted : State → ℕ → Result Item RecordFault → Result Item Fault
+abbrev pub admitted : State → ℕ → Result Item Fault → Result Item Fault
 admitted s place (Ok x) = unless place (objection s x) x
-admitted s place (Err f) = Err (from_record f)
+admitted s place (Err f) = Err f
 
 -- what the next record says, through all three layers; the bytes that are left begin at the place
 abbrev pub next_at : Expectation → State → ℕ → List ℕ → Result Item Fault
@@ -144,7 +136,7 @@ next_at Start s place bs = admitted s place (record_at place bs)
 next_at Points s place bs = admitted s place (record_at place bs)
 next_at Tables s place bs = admitted s place (record_at place bs)
 next_at Pairs s place bs = admitted s place (record_at place bs)
-next_at Nothing s place bs = Err (network_fault place TrailingBytes)
+next_at Nothing s place bs = Err (fault_in NetworkLayer place TrailingBytes)
 
 -- the network that was listed
 abbrev pub contents : State → Contents
@@ -152,10 +144,10 @@ contents s = record { points = s.points; tables = s.tables }
 
 -- at the file's end: the network if the end record came, and otherwise the file stopped too early
 abbrev pub at_end : Expectation → State → ℕ → Result Contents Fault
-at_end Start s place = Err (record { refusal = Truncated; layer = Byte; place = place })
-at_end Points s place = Err (record { refusal = Truncated; layer = Byte; place = place })
-at_end Tables s place = Err (record { refusal = Truncated; layer = Byte; place = place })
-at_end Pairs s place = Err (record { refusal = Truncated; layer = Byte; place = place })
+at_end Start s place = Err (fault_in Byte place Truncated)
+at_end Points s place = Err (fault_in Byte place Truncated)
+at_end Tables s place = Err (fault_in Byte place Truncated)
+at_end Pairs s place = Err (fault_in Byte place Truncated)
 at_end Nothing s place = Ok (contents s)
 
 -- going on after a record, or stopping at a fault

@@ -4,13 +4,13 @@ use Rattle.network.specs.declared.refusal.Refusal.{Refusal}
 use Rattle.network.specs.declared.refusal.Refusal.TheVariants.{BadHead, BadPoint, BadTable}
 use Rattle.network.specs.Bounds.{most_points, most_values, most_tables}
 use Rattle.network.specs.Points.{Entry, entry_of}
-use Rattle.netfile.specs.declared.fault.ByteFault.{ByteFault}
-use Rattle.netfile.specs.declared.fault.RecordFault.{RecordFault}
-use Rattle.netfile.specs.declared.fault.Layer.TheVariants.{Byte, Record as RecordLayer}
+use Rattle.netfile.specs.declared.fault.Fault.{Fault}
+use Rattle.netfile.specs.declared.fault.Layer.TheVariants.{Record as RecordLayer}
 use Rattle.netfile.specs.declared.record.Kind.{Kind}
 use Rattle.netfile.specs.declared.record.Kind.TheVariants.{Head, Point, Table, Pair, End}
 use Rattle.netfile.specs.declared.record.Record.{Record}
 use Rattle.netfile.specs.declared.record.Record.TheVariants as program
+use Rattle.netfile.specs.Faults.{fault_in}
 use Rattle.netfile.specs.Bytes.{Raw, raw_at}
 
 -- what a record says: how many points and tables there are, a point, a table's ends, a pair of values, how many pairs there were
@@ -54,36 +54,28 @@ point_fits body = (nat_le 1 (slice_index body 0) && nat_le (slice_index body 0) 
 abbrev pub table_fits : List ℕ → Bool
 table_fits body = nat_lt (slice_index body 0) (slice_index body 1)
 
--- a fault of the record layer
-abbrev pub record_fault : ℕ → Refusal → RecordFault
-record_fault place x = record { refusal = x; layer = RecordLayer; place = place }
-
 -- an answer whose refusal is a fault of the record layer at the place
-abbrev pub at_place : {A : Type 0} → ℕ → Result A Refusal → Result A RecordFault
+abbrev pub at_place : {A : Type 0} → ℕ → Result A Refusal → Result A Fault
 at_place place (Ok x) = Ok x
-at_place place (Err r) = Err (record_fault place r)
+at_place place (Err r) = Err (fault_in RecordLayer place r)
 
 -- the item where it is in order, and otherwise the refusal
-abbrev pub in_order : ℕ → Bool → Refusal → Item → Result Item RecordFault
-in_order place fits x item = cond fits (Ok item) (Err (record_fault place x))
+abbrev pub in_order : ℕ → Bool → Refusal → Item → Result Item Fault
+in_order place fits x item = cond fits (Ok item) (Err (fault_in RecordLayer place x))
 
 -- what a whole record at the place says, or what is wrong with it
-abbrev pub checked : ℕ → Kind → List ℕ → Result Item RecordFault
+abbrev pub checked : ℕ → Kind → List ℕ → Result Item Fault
 checked place Head body = in_order place (head_fits body) BadHead (head (slice_index body 1) (slice_index body 2))
 checked place Point body = in_order place (point_fits body) BadPoint (point (record { values = slice_index body 0; label = drop 1 body }))
 checked place Table body = in_order place (table_fits body) BadTable (table (slice_index body 0) (slice_index body 1))
 checked place Pair body = Ok (pair (slice_index body 0) (slice_index body 1))
 checked place End body = Ok (end (256 * slice_index body 0 + slice_index body 1))
 
--- a fault of the byte layer, carried up
-abbrev pub from_bytes : ByteFault → RecordFault
-from_bytes f = record { refusal = f.refusal; layer = Byte; place = f.place }
-
 -- the record layer after the byte layer
-abbrev pub checked_raw : ℕ → Result Raw ByteFault → Result Item RecordFault
+abbrev pub checked_raw : ℕ → Result Raw Fault → Result Item Fault
 checked_raw place (Ok r) = checked place r.kind r.body
-checked_raw place (Err f) = Err (from_bytes f)
+checked_raw place (Err f) = Err f
 
 -- what the record at the front of the bytes says, which begin at the place
-abbrev pub record_at : ℕ → List ℕ → Result Item RecordFault
+abbrev pub record_at : ℕ → List ℕ → Result Item Fault
 record_at place bs = checked_raw place (raw_at place bs)

@@ -3,7 +3,7 @@ ghost use Rattle.netfile.specs.Bytes.{body_length, raw_at};
 ghost use Rattle.netfile.specs.Records.{item_of, kind_of_item, record_at};
 ghost use Rattle.netfile.specs.Answers.{map_ok, raw_of};
 
-use crate::fault::{ByteFault, RecordFault};
+use crate::fault::{Fault, Layer};
 use crate::record::{Kind, Record};
 use crate::whole::Whole;
 use network::Refusal;
@@ -33,23 +33,17 @@ impl<'a> Cursor<'a> {
     }
 
     // The byte layer: the whole record that begins here.
-    fn whole(&self) -> Result<Whole<'a>, ByteFault>
+    fn whole(&self) -> Result<Whole<'a>, Fault>
         ensures answer { map_ok raw_of result ≡ raw_at self.now.position (drop self.now.position self.now.file.now) }
         ensures within { IfOk result (λ w. self.now.position + 1 + length w.body.now ≤ length self.now.file.now) }
     {
         let place = self.position;
         let Some((byte, rest)) = self.file[place..].split_first() else {
-            return Err(ByteFault {
-                refusal: Refusal::Truncated,
-                place,
-            });
+            return Err(Layer::Byte.fault(place, Refusal::Truncated));
         };
-        let kind = Kind::try_from(*byte).map_err(|refusal| ByteFault { refusal, place })?;
+        let kind = Kind::try_from(*byte).map_err(|refusal| Layer::Byte.fault(place, refusal))?;
         let Some(body) = rest.get(..kind.body_length()) else {
-            return Err(ByteFault {
-                refusal: Refusal::Truncated,
-                place: self.file.len(),
-            });
+            return Err(Layer::Byte.fault(self.file.len(), Refusal::Truncated));
         };
         Ok(Whole { kind, body })
     }
@@ -62,7 +56,7 @@ impl<'a> Cursor<'a> {
     }
 
     // The next record, through the byte and the record layer. After a fault the cursor stays where it is.
-    pub(crate) fn next(&mut self) -> Result<Record, RecordFault>
+    pub(crate) fn next(&mut self) -> Result<Record, Fault>
         ensures answer { map_ok item_of result ≡ record_at self.old.position (drop self.old.position self.old.file.now) }
         ensures same { self.new.file.now ≡ self.old.file.now }
         ensures moves { MatchResult result (λ x. self.new.position ≡ self.old.position + 1 + body_length (kind_of_item (item_of x))) (λ _. self.new.position ≡ self.old.position) }
@@ -71,7 +65,7 @@ impl<'a> Cursor<'a> {
         let whole = self.whole()?;
         let record = whole
             .check()
-            .map_err(|refusal| RecordFault::of_record(place, refusal))?;
+            .map_err(|refusal| Layer::Record.fault(place, refusal))?;
         self.position = place + 1 + whole.body.len();
         Ok(record)
     }

@@ -11,7 +11,8 @@ use network::{Point, Refusal, Table, numbering};
 use std::alloc::{AllocError, Global};
 
 // What the head announces.
-#[derive(Clone, Copy)]
+// Both are 0 until the head has come, as the definition `start` says: an `Option` would be opened at each use, where it is never missing.
+#[derive(Clone, Copy, Debug, PartialEq, Eq)]
 pub struct Announced {
     points: usize,
     tables: usize,
@@ -65,7 +66,7 @@ impl Draft {
     fn last_table(&self) -> Table
         ensures { table_of result ≡ last_table (state_of self.now) }
     {
-        // a table with no pair stands for a missing one, as in the definition: no file comes to it, and an `Option` would only add an arm
+        // a table with no pair stands for a missing one, as the definition has it: no file comes to it, and an `Option` would need an arm that says so
         self.tables.last().copied().unwrap_or(Table::new(0, 0))
     }
 

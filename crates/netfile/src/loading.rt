@@ -1,4 +1,4 @@
-ghost use Rattle.std.specs.Prelude.{◌≡◌, ℕ, ◌≤◌, ◌&&◌, length, vec_len};
+ghost use Rattle.std.specs.Prelude.{◌≡◌, ℕ, ◌≤◌, ◌&&◌, Some, length, vec_len};
 ghost use Rattle.network.specs.Bounds.{PointsWithin, most_tables};
 ghost use Rattle.network.specs.Points.{entries, values_of};
 ghost use Rattle.network.specs.Tables.{tables_of, TablesWithin};
@@ -8,12 +8,15 @@ ghost use Rattle.netfile.specs.Listings.{AcceptsExactly};
 ghost use Rattle.netfile.specs.Conditions.{FirstFaultDecides};
 ghost use Rattle.netfile.specs.Drafts.{state_of, ended};
 ghost use Rattle.netfile.specs.Outcomes.{refused_by, out_of_memory, Drafts, Reads, Loads};
+ghost use Rattle.netfile.specs.Texts.{read_error_text};
 
 use crate::draft::Draft;
 use crate::fault::Fault;
 use crate::reader::Reader;
 use network::{Network, PointList};
 use std::alloc::{AllocError, Global};
+use std::error::Error;
+use std::fmt;
 
 // Why no network was read.
 #[derive(Clone, Copy, Debug, PartialEq, Eq)]
@@ -23,6 +26,19 @@ pub enum ReadError {
     // there was no memory for the network
     OutOfMemory,
 }
+
+impl fmt::Display for ReadError {
+    ghost output = { λ error. Some (read_error_text error) };
+
+    fn fmt<W: fmt::Write>(&self, f: &mut fmt::Formatter<W>) -> fmt::Result {
+        match self {
+            ReadError::Refused(fault) => write!(f, "{fault}"),
+            ReadError::OutOfMemory => f.write_str("out of memory"),
+        }
+    }
+}
+
+impl Error for ReadError {}
 
 impl From<Fault> for ReadError {
     ghost from_gives = { λ f r. r ≡ refused_by f };

@@ -7,7 +7,7 @@ ghost use Rattle.netfile.specs.Drafts.{state_of, ended};
 
 use crate::cursor::Cursor;
 use crate::draft::Draft;
-use crate::fault::Fault;
+use crate::fault::{Fault, Layer};
 use crate::record::Record;
 use network::Refusal;
 use std::alloc::Global;
@@ -48,12 +48,12 @@ impl<'a> Reader<'a> {
     {
         let place = self.cursor.position();
         if self.draft.finished() {
-            return Err(Fault::of_network(place, Refusal::TrailingBytes));
+            return Err(Layer::Network.fault(place, Refusal::TrailingBytes));
         }
         let record = self.cursor.next()?;
         self.draft
             .objection(record)
-            .map_err(|refusal| Fault::of_network(place, refusal))?;
+            .map_err(|refusal| Layer::Network.fault(place, refusal))?;
         Ok(record)
     }
 }

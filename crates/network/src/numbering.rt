@@ -15,6 +15,7 @@ pub fn count(points: &[Point], point: usize) -> usize
 }
 
 // The bound on the points stands in three contracts: a session has no point before it is opened, so it lends a slice and no `PointList`.
+// The bounds on the results are promises of each function: a caller sees no other.
 // How many values the points have in all.
 pub(crate) fn total(points: &[Point]) -> usize
     requires { length points.now ≤ most_points }

@@ -1,7 +1,11 @@
-ghost use Rattle.std.specs.Prelude.{◌≡◌};
+ghost use Rattle.std.specs.Prelude.{◌≡◌, Some};
+ghost use Rattle.theory.specs.Names.{refusal_text};
 ghost use Rattle.network.specs.Refusals.{number_of};
 
-// Why a call was refused.
+use std::error::Error;
+use std::fmt;
+
+// Why a file was refused.
 #[derive(Clone, Copy, Debug, PartialEq, Eq)]
 pub enum Refusal {
     // the file stops inside a record, or before the end record
@@ -36,3 +40,14 @@ impl Refusal {
         *self as u8
     }
 }
+
+// As of each refusal: one impl for all types that have a number may not be written, since `Display` is not ours.
+impl fmt::Display for Refusal {
+    ghost output = { λ refusal. Some (refusal_text (number_of refusal)) };
+
+    fn fmt<W: fmt::Write>(&self, f: &mut fmt::Formatter<W>) -> fmt::Result {
+        write!(f, "refused {}", self.number())
+    }
+}
+
+impl Error for Refusal {}

@@ -21,6 +21,7 @@ pub(crate) fn write_signs(marks: &[Mark], out: &mut [u8], at: usize) -> usize
     requires { at + length marks.now ≤ length out.old }
     ensures { Placed (map sign_text marks.now) at out.old out.new result }
 {
+    // by place: after a loop over `iter_mut` and an adapter a proof knows how many bytes there are, and not which
     for (v, mark) in marks.iter().enumerate() {
         out[at + v] = sign(*mark);
     }

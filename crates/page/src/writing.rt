@@ -44,6 +44,6 @@ pub fn page(heap: Global, session: &Session) -> Result<Vec<u8>, AllocError>
 {
     let size = page_length(session);
     let mut bytes = vec![in heap; 0u8; size]?;
-    let _ = write_page(session, &mut bytes);
+    let _ = write_page(session, &mut bytes).unwrap();
     Ok(bytes)
 }

@@ -1,6 +1,5 @@
 -- Counting the partners of a value.
-use Rattle.std.proofs.Common.{◌≡◌, ℕ, ◌+◌, ◌≤◌, List, length, None, slice_get, filter, ⊎_elim, arith}
-use Rattle.std.proofs.lemmas.Option.{slice_get_cases}
+use Rattle.std.proofs.Common.{◌≡◌, ℕ, ◌+◌, List, length, filter, arith}
 use Rattle.std.proofs.lemmas.List.{length-map}
 use Rattle.theory.specs.declared.Side.{Side}
 use Rattle.theory.specs.Encodings.{support_clause}
@@ -12,7 +11,3 @@ use Rattle.theory.specs.Numbering.{values, number}
 pub support_length : (ks : List ℕ) (s : Side) (t : Table) (i n : ℕ) →
     n ≡ length (filter (partner s t i) (values ks (far s t))) → n + 1 ≡ length (support_clause ks s t i)
 support_length ks s t i n e = omega (arith, length-map (filter (partner s t i) (values ks (far s t))) (λ j. is_in (number ks (far s t) j)))
-
--- a list that has nothing at a place ends before it
-pub ends_before : {A : Type 0} (xs : List A) (i : ℕ) → slice_get xs i ≡ None → length xs ≤ i
-ends_before xs i none = ⊎_elim (λ found. absurd (let there = found.2 in cc)) (λ past. past.0) (slice_get_cases xs i).1

@@ -1,4 +1,4 @@
-ghost use Rattle.std.specs.Prelude.{◌≡◌, ◌+◌, ◌<◌, ◌≤◌, length, IfSome, slice_get, slice_index};
+ghost use Rattle.std.specs.Prelude.{◌≡◌, ◌+◌, ◌<◌, ◌≤◌, length, IfSome, slice_get};
 ghost use Rattle.theory.specs.Network.{near, far, partner};
 ghost use Rattle.theory.specs.Numbering.{count};
 ghost use Rattle.network.specs.Bounds.{most_values};
@@ -6,7 +6,7 @@ ghost use Rattle.network.specs.Points.{counts_of};
 ghost use Rattle.network.specs.Tables.{table_of};
 ghost use Rattle.partners.specs.Ends.{partners_of, support_of};
 
-use crate::literal;
+use literals::Literal;
 use network::{PointList, Table};
 use theory::Side;
 
@@ -32,7 +32,7 @@ impl<'a> End<'a> {
         }
     }
 
-    // `near` and `far` stay two: each is one match, and a shared one would only be told which
+    // `near` and `far` stay two: a shared function would be the same match, with one parameter more.
     // The near point.
     pub fn near(&self) -> usize
         ensures { result ≡ near self.now.side (table_of self.now.table.now) }
@@ -101,18 +101,16 @@ impl<'a> End<'a> {
             .nth(n)
     }
 
-    // Literal n of the support clause of the value i: 0 where there is none.
-    pub fn support_literal(&self, i: u8, n: usize) -> u32
-        ensures { result ≡ slice_index (support_of self.now i) n }
+    // The value is a u8, as a point's values are counted, so that the number of each literal fits.
+    // Literal n of the support clause of the value i: nothing where there is none.
+    pub fn support_literal(&self, i: u8, n: usize) -> Option<Literal>
+        ensures { result ≡ slice_get (support_of self.now i) n }
     {
         let value = i as usize;
         if n == 0 {
-            return literal::is_out(self.points.offset(self.near()) + value);
+            return Some(Literal::is_out(self.points.offset(self.near()) + value));
         }
-        // 0 for what is missing, as a clause book answers it
-        match self.partner(value, n - 1) {
-            Some(partner) => literal::is_in(self.points.offset(self.far()) + partner),
-            None => 0,
-        }
+        let partner = self.partner(value, n - 1)?;
+        Some(Literal::is_in(self.points.offset(self.far()) + partner))
     }
 }

@@ -1,7 +1,6 @@
-// The ends of a table, the partners of its values, and literals, each with its number.
+// The ends of a table, and the partners of its values.
 #![tactic(auto)]
 
 mod ends;
-pub mod literal;
 
 pub use ends::End;

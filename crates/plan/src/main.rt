@@ -2,7 +2,7 @@
 #![tactic(auto)]
 
 use anyhow::{Result, anyhow};
-use commands::{answers, command, text};
+use commands::{answers, command};
 use netfile::ReadError;
 use network::Network;
 use std::io::{BufRead, BufReader};
@@ -29,16 +29,16 @@ fn file_name(rt: &HostRuntime) -> Result<String> {
 }
 
 fn run(rt: &HostRuntime) -> Result<()> {
-    // as in session_plan: a shared function would be handed all that is done here as a closure, and has no contract
+    // as in session_plan, whose words and answers differ: a shared function would be handed both as closures
     let name = file_name(rt)?;
     let bytes = fs::read(rt, &name)?;
     match netfile::read(rt.alloc(), &bytes) {
         Ok(network) => answer_all(rt, &network),
         Err(ReadError::Refused(fault)) => {
-            rt.println(text::refused(rt.alloc(), fault.refusal.number(), fault.place)?)?;
+            rt.println(fault)?;
             Ok(())
         }
-        Err(ReadError::OutOfMemory) => Err(anyhow!("out of memory")),
+        Err(error) => Err(error.into()),
     }
 }
 

@@ -10,7 +10,7 @@ ghost use Rattle.propagation.specs.Outcomes.{outcome};
 use crate::Conflict;
 use crate::visiting::{sweep, visit_all};
 use clause_store::ClauseStore;
-use trail::{Trail, opposite};
+use trail::Trail;
 
 // Adds all that the clauses force, up to a conflict, where only the trail's literals from `head` on are left to look at.
 pub fn propagate(store: &ClauseStore, trail: &mut Trail, head: usize) -> Result<(), Conflict>
@@ -25,7 +25,7 @@ pub fn propagate(store: &ClauseStore, trail: &mut Trail, head: usize) -> Result<
     let mut next = head;
     // no `for`: the trail grows while it is read
     while next < trail.len() {
-        let literal = opposite(trail.literal(next));
+        let literal = trail.literal(next).opposite();
         sweep(store, trail, literal)?;
         next += 1;
     }

@@ -1,13 +1,13 @@
-ghost use Rattle.std.specs.Prelude.{ℕ, ◌*◌, ◌<◌, length, slice_index};
-ghost use Rattle.trail.specs.Parts.{literals_of, values_of};
+ghost use Rattle.trail.specs.Parts.{literals_of};
 ghost use Rattle.propagation.specs.Finds.{Finds};
 
 use crate::Conflict;
+use literals::Literal;
 use trail::Trail;
 
-// The literal that a clause forces under a trail that says nothing of it: none where it forces no more than the trail holds.
-pub(crate) fn scan(trail: &Trail, clause: &[u32]) -> Result<Option<u32>, Conflict>
-    requires { (k : ℕ) → k < length clause.now → slice_index clause.now k < 2 * values_of trail.now }
+// The literal that a clause forces and of which the trail says nothing: none where the trail holds all that it forces, and a conflict
+// where all its literals are false.
+pub(crate) fn scan(trail: &Trail, clause: &[Literal]) -> Result<Option<Literal>, Conflict>
     ensures { Finds (literals_of trail.now) clause.now result }
 {
     let mut open = None;

@@ -9,9 +9,11 @@ ghost use Rattle.propagation.specs.Queue.{Grew, Done};
 use crate::Conflict;
 use crate::scanning::scan;
 use clause_store::ClauseStore;
+use literals::Literal;
 use trail::Trail;
 
-// Store and trail stay two parameters: as the two references of one struct, each method has to say instead that they stay the same.
+// Store and trail stay two parameters: a loop walks a list that the store lends while the trail grows, so inside it no method of a struct of
+// both could be called; and of two references in a struct each method has to say that they stay the same.
 // Adds the literal that clause i forces.
 pub(crate) fn visit(store: &ClauseStore, trail: &mut Trail, i: usize) -> Result<(), Conflict>
     requires sized { store.now.values ≡ values_of trail.old }
@@ -28,15 +30,18 @@ pub(crate) fn visit(store: &ClauseStore, trail: &mut Trail, i: usize) -> Result<
 }
 
 // Visits each clause that holds a literal, up to a conflict.
-pub(crate) fn sweep(store: &ClauseStore, trail: &mut Trail, literal: u32) -> Result<(), Conflict>
+pub(crate) fn sweep(
+    store: &ClauseStore,
+    trail: &mut Trail,
+    literal: Literal,
+) -> Result<(), Conflict>
     requires sized { store.now.values ≡ values_of trail.old }
-    requires within { literal < 2 * store.now.values }
     ensures many { values_of trail.new ≡ values_of trail.old }
     ensures grew { Grew (clauses_of store.now) (literals_of trail.old) (literals_of trail.new) }
     ensures calm { OnOk result ((c : List ℕ) → c ∈ clauses_of store.now → literal ∈ c → Done (literals_of trail.new) (length (literals_of trail.old)) c) }
     ensures clash { OnErr result (Clash (clauses_of store.now) (literals_of trail.old)) }
 {
-    // apart from `visit_all`: the two promise that other clauses are settled
+    // apart from `visit_all`: this promises that the clauses are settled that hold the literal, and that of all of them
     for i in store.holding(literal) {
         visit(store, trail, *i)?;
     }

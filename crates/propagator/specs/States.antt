@@ -1,5 +1,6 @@
 -- The state by which contracts speak of a propagator.
-use Rattle.std.specs.Prelude.{◌≡◌, ℕ, ◌-◌, ◌<◌, Bool, false, List, [], ◌∷◌, ◌++◌, length, take, vec_items}
+use Rattle.std.specs.Prelude.{◌≡◌, ℕ, ◌-◌, Bool, cond, List, [], ◌∷◌, ◌++◌, map, length, take, Some, None, Option, nat_lt, vec_items}
+use Rattle.std.specs.List.{range_with_len}
 use Rattle.theory.specs.declared.Mark.{Mark}
 use Rattle.theory.specs.declared.Mark.TheVariants.{Open}
 use Rattle.theory.specs.Marks.{clashed, mark}
@@ -25,9 +26,17 @@ has_clash s = clashed s.clauses s.values s.decisions
 abbrev pub mark_in : State → ℕ → Mark
 mark_in s v = mark s.clauses s.values s.decisions v
 
+-- the marks of all values, in order: nothing in a clash
+abbrev pub known_marks : State → Option (List Mark)
+known_marks s = cond (has_clash s) None (Some (map (mark_in s) (range_with_len 0 s.values)))
+
+-- the mark of the value v: nothing in a clash, and nothing where there is no such value
+abbrev pub known_mark : State → ℕ → Option Mark
+known_mark s v = cond (has_clash s) None (cond (nat_lt v s.values) (Some (mark_in s v)) None)
+
 -- there is no clash, and some value is open
 abbrev pub SomeOpen : State → Type 0
-SomeOpen s = (has_clash s ≡ false) × ((v : ℕ) × (v < s.values) × (mark_in s v ≡ Open))
+SomeOpen s = (v : ℕ) × (known_mark s v ≡ Some Open)
 
 -- the state with one decision more
 abbrev pub with_decision : State → ℕ → State

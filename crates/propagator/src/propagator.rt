@@ -20,6 +20,7 @@ pub struct Propagator {
     store: ClauseStore,
     trail: Trail,
     decisions: Vec<Decision>,
+    // a bool, and no trail that is missing: in a clash the trail has to be there, to be cut when a decision is withdrawn
     clashed: bool,
     ghost sized: { store.values ≡ values_of trail },
     ghost roomy: { store.values ≤ vec_capacity decisions },

@@ -1,7 +1,7 @@
 -- What a session stands on, and what opening leaves.
-use Rattle.std.specs.Prelude.{◌≡◌, ℕ, ◌<◌, false, List, [], map, Ok, Err, vec_items, Result}
+use Rattle.std.specs.Prelude.{◌≡◌, ℕ, List, [], map, Ok, Err, vec_items, Result}
 use Rattle.theory.specs.declared.Mark.{Mark}
-use Rattle.theory.specs.Numbering.{count, total, number, values}
+use Rattle.theory.specs.Numbering.{total, values}
 use Rattle.network.specs.Points.{Entry, entries, values_of}
 use Rattle.clause_store.specs.declared.error.OpenError.{OpenError}
 use Rattle.clause_store.specs.declared.error.OpenError.TheVariants.{Unfit, OutOfMemory}
@@ -22,12 +22,6 @@ abbrev pub Opens : List Entry → List (List ℕ) → State → Result (Unit {0}
 Opens ps cs s (Ok _) = Fit (total (values_of ps)) cs × (s ≡ record { points = ps; clauses = cs; decisions = [] })
 Opens ps cs s (Err Unfit) = Fit (total (values_of ps)) cs → ⊥
 Opens ps cs s (Err OutOfMemory) = Unit {0}
-
--- the value v of the point p is there and has the number n, and there is no clash
-pub record Found (s : State) (p v n : ℕ) : Type 0 where
-  pub there : v < count (counts_of s) p
-  pub calm : is_clashed s ≡ false
-  pub is : n ≡ number (counts_of s) p v
 
 -- the marks of the values of the point p, in order
 abbrev pub marks_of : State → ℕ → List Mark

@@ -1,17 +1,16 @@
 -- What is written for the answers to the calls of a session.
 use Rattle.std.specs.Prelude.{ℕ, Bool, true, false, List, Some, None, Ok, Err, codes, decimal, Option, Result}
-use Rattle.theory.specs.Names.{mark_name}
+use Rattle.theory.specs.Names.{mark_name, refusal_text}
 use Rattle.calls.specs.Names.{decided_name}
 use Rattle.calls.specs.Refusals.{number_of}
 use Rattle.calls.specs.declared.call.Exchange.{Exchange}
 use Rattle.calls.specs.declared.call.Exchange.TheVariants.{Choose, Bar, Withdraw, Mark, Left, Value, Decisions, Clash}
 use Rattle.calls.specs.declared.refusal.CallRefusal.{CallRefusal}
-use Rattle.session_commands.specs.Texts.{refused_call_text}
 
 -- the text of what was answered, or the number of the refusal
 abbrev pub or_refused : {X : Type 0} → (X → List ℕ) → Result X CallRefusal → List ℕ
 or_refused text (Ok x) = text x
-or_refused text (Err refusal) = refused_call_text (number_of refusal)
+or_refused text (Err refusal) = refusal_text (number_of refusal)
 
 -- that a decision was taken back
 abbrev pub done_text : Unit {0} → List ℕ

@@ -1,3 +1,2 @@
 pub mod AnswerTexts
 pub mod Commands
-pub mod Texts

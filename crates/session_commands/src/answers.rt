@@ -1,24 +1,23 @@
 ghost use Rattle.std.specs.Prelude.{◌≡◌, IfOk, MatchResult, string_bytes};
 ghost use Rattle.calls.specs.Refusals.{number_of};
-ghost use Rattle.session_commands.specs.Texts.{refused_call_text};
+ghost use Rattle.theory.specs.Names.{refusal_text};
 ghost use Rattle.session_commands.specs.AnswerTexts.{value_text, clash_text, answer_text};
 
-use crate::text;
 use calls::{CallRefusal, Exchange};
 use std::alloc::{AllocError, Global};
 
-// What is shown of an answer, or the number of the refusal in its place.
+// What is shown of an answer, or the refusal in its place.
 fn or_refused<T, F: FnOnce(T) -> Result<String, AllocError>>(
     heap: Global,
     reply: Result<T, CallRefusal>,
     show: F,
 ) -> Result<String, AllocError>
     requires { F.IsAlwaysCallable show }
-    ensures { MatchResult reply (λ x. F.post show x result) (λ e. IfOk result (λ s. string_bytes s ≡ refused_call_text (number_of e))) }
+    ensures { MatchResult reply (λ x. F.post show x result) (λ e. IfOk result (λ s. string_bytes s ≡ refusal_text (number_of e))) }
 {
     match reply {
         Ok(answered) => show(answered),
-        Err(refusal) => text::refused_call(heap, refusal.number()),
+        Err(refusal) => refusal.to_string(heap),
     }
 }
 

@@ -3,4 +3,3 @@
 
 pub mod answers;
 pub mod command;
-pub mod text;

@@ -4,12 +4,12 @@
 mod options;
 mod terminal;
 
-use anyhow::{Result, anyhow};
+use anyhow::Result;
+use clause_store::OpenError;
 use computed::ComputedBook;
 use netfile::ReadError;
 use network::Network;
 use options::Options;
-use session_commands::text;
 use std::fs;
 use terminal::Terminal;
 use theory::Encoding;
@@ -20,27 +20,25 @@ fn play<'a>(rt: &'a HostRuntime, network: &'a Network, encoding: Encoding) -> Re
     let mut terminal = Terminal::new(rt, network)?;
     match runs::play(rt.alloc(), network.points(), &book, &mut terminal) {
         Ok(()) => terminal.finish(),
-        Err(error) => match error.number() {
-            Some(number) => {
-                rt.println(text::refused_call(rt.alloc(), number)?)?;
-                Ok(())
-            }
-            None => Err(anyhow!("out of memory")),
-        },
+        Err(OpenError::Unfit) => {
+            rt.println(OpenError::Unfit)?;
+            Ok(())
+        }
+        Err(error) => Err(error.into()),
     }
 }
 
 fn run(rt: &HostRuntime) -> Result<()> {
-    // as in plan: a shared function would be handed all that is done here as a closure, and has no contract
+    // as in plan, whose words and answers differ: a shared function would be handed both as closures
     let options = Options::read(rt)?;
     let bytes = fs::read(rt, &options.file)?;
     match netfile::read(rt.alloc(), &bytes) {
         Ok(network) => play(rt, &network, options.encoding),
         Err(ReadError::Refused(fault)) => {
-            rt.println(text::refused(rt.alloc(), fault.refusal.number(), fault.place)?)?;
+            rt.println(fault)?;
             Ok(())
         }
-        Err(ReadError::OutOfMemory) => Err(anyhow!("out of memory")),
+        Err(error) => Err(error.into()),
     }
 }
 

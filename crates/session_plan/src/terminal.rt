@@ -4,7 +4,7 @@ use network::Network;
 use runs::Caller;
 use session::Session;
 use session_commands::command::Command;
-use session_commands::{answers, command, text};
+use session_commands::{answers, command};
 use std::io;
 use std::io::{BufRead, BufReader, Split, Stdin, Write};
 
@@ -41,12 +41,10 @@ impl<'a> Terminal<'a> {
 
     // Answers the question for the halves of a table.
     fn answer_half(&self, table: usize) -> Result<()> {
-        let heap = self.rt.alloc();
-        let answer = match computed::half_scores(self.network, table) {
-            Ok(scores) => text::half(heap, scores)?,
-            Err(refusal) => text::refused_call(heap, refusal.number())?,
-        };
-        self.rt.println(answer)?;
+        match computed::half_scores(self.network, table) {
+            Ok(scores) => self.rt.println(scores)?,
+            Err(refusal) => self.rt.println(refusal)?,
+        }
         Ok(())
     }
 

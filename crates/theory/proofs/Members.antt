@@ -1,4 +1,4 @@
--- What stands in a list: `++`, `kept_by`, `counting`, `map`, `joined`, and the test `has`.
+-- What stands in a list: `++`, `filter`, ranges, `map`, `flat_map`, places, and the test `has`.
 use Rattle.std.proofs.Common.{◌≡◌, ℕ, zero, suc, ◌+◌, ◌*◌, ◌<◌, ◌≤◌, Bool, true, false, cond, not, eqb, ◌⊎◌, List, [], ◌∷◌, ◌++◌, map, length, get_or, filter, sym, refl, ap, ◌∙◌, subst, inl, inr, ⊎_elim, suc-mul, arith}
 use mathlib.Core.Bool.{false≢true}
 use Rattle.std.specs.List.{range_with_len, flat_map}

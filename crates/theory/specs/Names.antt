@@ -1,5 +1,5 @@
--- The names of encodings, sides and marks, as programs read and write them.
-use Rattle.std.specs.Prelude.{ℕ, cond, List, Some, None, codes, Option}
+-- The names of encodings, sides, marks and refusals, as programs read and write them.
+use Rattle.std.specs.Prelude.{ℕ, cond, List, ◌++◌, Some, None, codes, decimal, Option}
 use Rattle.std.specs.Str.{bytes_eq}
 use Rattle.theory.specs.declared.Encoding.{Encoding}
 use Rattle.theory.specs.declared.Encoding.TheVariants.{Direct, Support, MinimalSupport}
@@ -25,3 +25,11 @@ abbrev pub mark_name : Mark → List ℕ
 mark_name In = codes "in"
 mark_name Out = codes "out"
 mark_name Open = codes "open"
+
+-- a refusal, by its number
+abbrev pub refusal_text : ℕ → List ℕ
+refusal_text n = codes "refused " ++ decimal n
+
+-- that there was no memory
+abbrev pub memory_text : List ℕ
+memory_text = codes "out of memory"

@@ -1,14 +1,25 @@
 // The names of encodings, sides and marks.
-ghost use Rattle.std.specs.Prelude.{◌≡◌, Some};
+ghost use Rattle.std.specs.Prelude.{◌≡◌, Some, codes};
 ghost use Rattle.std.specs.Result.{result_ok};
 ghost use Rattle.theory.specs.Names.{encoding_named, side_name, mark_name};
 
 use crate::{Encoding, Mark, Side};
+use std::error::Error;
 use std::fmt;
 
 // The name is of no encoding.
 #[derive(Clone, Copy, Debug, PartialEq, Eq)]
 pub struct UnknownEncoding;
+
+impl fmt::Display for UnknownEncoding {
+    ghost output = { λ _. Some (codes "unknown encoding") };
+
+    fn fmt<W: fmt::Write>(&self, f: &mut fmt::Formatter<W>) -> fmt::Result {
+        f.write_str("unknown encoding")
+    }
+}
+
+impl Error for UnknownEncoding {}
 
 impl TryFrom<&[u8]> for Encoding {
     type Error = UnknownEncoding;

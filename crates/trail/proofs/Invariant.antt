@@ -1,27 +1,22 @@
 -- A trail's own invariant, in hand.
-use Rattle.std.proofs.Common.{◌≡◌, ℕ, ◌*◌, ◌/◌, ◌<◌, ◌≤◌, List, [], ◌∷◌, ◌++◌, map, length, get_or, vec_items, vec_capacity, sym, refl, ap, ◌∙◌, subst, inl, arith}
+use Rattle.std.proofs.Common.{◌≡◌, ℕ, ◌/◌, ◌<◌, ◌≤◌, map, length, vec_items, vec_capacity, sym, ◌∙◌, subst, arith}
 use mathlib.Core.Logic.{∥∥₁_elim}
 use denote.Struct.Props.{props}
 use Rattle.std.specs.List.{range_with_len}
-use Rattle.std.proofs.lemmas.List.{get_or_read, get_or_default, same_lists}
+use Rattle.std.proofs.lemmas.List.{get_or_default, same_lists}
 use Rattle.std.proofs.lemmas.List.FromFn.{length-map-range_with_len, get_or-map-range_with_len}
-use Rattle.theory.specs.declared.Mark.{Mark}
 use Rattle.theory.specs.declared.Mark.TheVariants.{Open}
 use Rattle.theory.specs.Lists.{◌∈◌}
 use Rattle.theory.specs.Literals.{is_in, opposite}
 use Rattle.theory.specs.Marks.{mark_of}
 use Rattle.trail.specs.declared.trail.Trail.{Trail}
-use Rattle.trail.specs.Marked.{Marked, Marked-prop, code}
+use Rattle.trail.specs.Marked.{Marked, Marked-prop}
 use Rattle.trail.specs.Parts.{literals_of, values_of}
 use Rattle.trail.proofs.Truths.{open_mark}
-use Rattle.trail.proofs.Marking.{below_in, consistent, room_left, mark_is}
+use Rattle.trail.proofs.Marking.{consistent, room_left, mark_is}
 
 pub marked_of : (s : Trail) → Marked (vec_capacity s.literals) (literals_of s) (vec_items s.marks)
 marked_of s = ∥∥₁_elim s.ok (Marked-prop (hlevel props) (hlevel props) (hlevel props) (hlevel props) (hlevel props) (hlevel props)) (λ k. k)
-
--- the mark that was read is the one at its place
-pub read_mark : (ms : List Mark) (i : ℕ) (x m : Mark) → i < length ms → x ≡ get_or ms i x → x ≡ m → code (get_or ms i Open) ≡ code m
-read_mark ms i x m h e q = ap code (sym (get_or_read ms i x h e Open) ∙ q)
 
 -- a trail has at most a literal for each value
 pub trail_short : (s : Trail) → length (literals_of s) ≤ values_of s
@@ -33,10 +28,6 @@ trail_shorter s v h e =
     let half : v ≡ is_in v / 2 = omega arith in
     let f = open_mark (literals_of s) (is_in v) (subst (λ x. mark_of (literals_of s) x ≡ Open) half e) in
     omega (arith, s.marks.ok.0, room_left _ _ _ (marked_of s) (is_in v) (omega (arith, s.marks.ok.0)) f)
-
--- each literal of a trail is one of its values
-pub trail_below : (s : Trail) (k : ℕ) → k < length (literals_of s) → get_or (literals_of s) k 0 < 2 * values_of s
-trail_below s k h = omega (arith, s.marks.ok.0, (marked_of s).below k h)
 
 -- no literal of a trail stands there with its opposite
 pub trail_apart : (s : Trail) (l : ℕ) → l ∈ literals_of s → opposite l ∈ literals_of s → ⊥

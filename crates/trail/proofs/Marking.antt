@@ -1,14 +1,15 @@
 -- The marks after a literal is added or taken off.
-use Rattle.std.proofs.Common.{◌≡◌, ℕ, zero, suc, ◌+◌, ◌-◌, ◌*◌, ◌/◌, ◌%◌, ◌<◌, ◌≤◌, true, false, eqb, ◌≢◌, List, [], ◌∷◌, ◌++◌, Some, None, Option, Bool, length, get_or, set, replicate, min, sym, refl, ap, ◌∙◌, subst, inl, ⊎_elim, arith, below_more}
+use Rattle.std.proofs.Common.{◌≡◌, ℕ, zero, suc, ◌+◌, ◌-◌, ◌*◌, ◌/◌, ◌%◌, ◌<◌, ◌≤◌, true, false, ◌≢◌, List, [], ◌∷◌, ◌++◌, Some, None, length, get_or, set, drop, replicate, min, sym, refl, ap, ◌∙◌, subst, inl, ⊎_elim, arith, below_more}
 use Rattle.std.proofs.Math.Seq.{get_or-append_seam}
 use Rattle.std.proofs.lemmas.Bool.{cases_eq, cases_lt, ne_eqb, eq-eqb}
-use Rattle.std.proofs.lemmas.List.{length_push, length-append, length-set, get_or_push, get_or_append_left, get_or-append_right, get_or-set_same, get_or-set_other, length-replicate}
+use Rattle.std.proofs.lemmas.List.{get_or_past, drop_more, length_push, length-append, length-set, get_or_push, get_or_append_left, get_or-append_right, get_or-set_same, get_or-set_other, length-replicate}
 use Rattle.theory.specs.declared.Mark.{Mark}
 use Rattle.theory.specs.declared.Mark.TheVariants.{In, Out, Open}
 use Rattle.theory.specs.Lists.{◌∈◌, has}
 use Rattle.theory.specs.Literals.{opposite, is_in, is_out}
 use Rattle.theory.specs.Marks.{mark_of}
 use Rattle.theory.proofs.Members.{in_from_has, has_from_in, in_left, in_right, in_append, at_in}
+use Rattle.literals.specs.Given.{mark_given, truth_by}
 use Rattle.trail.specs.Marked.{Marked, code, opens}
 use Rattle.trail.specs.Truths.{truth_of}
 use Rattle.trail.proofs.Opposites.{opposite_half}
@@ -23,6 +24,11 @@ opens_cons : (m : Mark) (ms : List Mark) → (code m ≡ 0 → opens (m ∷ ms) 
 opens_cons Open ms = (λ _. refl, λ f. absurd (f refl))
 opens_cons In ms = (λ e. absurd (omega arith), λ _. refl)
 opens_cons Out ms = (λ e. absurd (omega arith), λ _. refl)
+
+-- the mark that a literal gives says which of the two literals it is
+pub code_given : (l : ℕ) → code (mark_given l) ≡ 1 + l % 2
+code_given l =
+    ⊎_elim (λ z. rw (eq-eqb (l % 2) 0 z) omega (arith, z)) (λ z. rw (ne_eqb (l % 2) 0 z) omega (arith, z)) (cases_eq (l % 2) 0)
 
 -- one mark that was open is not
 opens_set : (ms : List Mark) (v : ℕ) (m : Mark) → v < length ms → code (get_or ms v Open) ≡ 0 → (code m ≡ 0 → ⊥) → opens (set ms v m) + 1 ≡ opens ms
@@ -49,17 +55,11 @@ pub opens_all : (n : ℕ) → opens (replicate n Open) ≡ n
 opens_all zero = refl
 opens_all (suc n) = let r = opens_all n in omega arith
 
--- whether a literal is true where its value has the mark
-abbrev pub said_by : Mark → ℕ → Option Bool
-said_by Open l = None
-said_by In l = Some (eqb (l % 2) 0)
-said_by Out l = Some (eqb (l % 2) 1)
-
 module _ (cap : ℕ) (t : List ℕ) (ms : List Mark) (k : Marked cap t ms) where
   pub told_in : (l : ℕ) → l ∈ t → code (get_or ms (l / 2) Open) ≡ 1 + l % 2
   told_in l h = let r = at_in t l h in subst (λ x. code (get_or ms (x / 2) Open) ≡ 1 + x % 2) r.2 (k.told r.0 r.1)
 
-  pub below_in : (l : ℕ) → l ∈ t → l < 2 * length ms
+  below_in : (l : ℕ) → l ∈ t → l < 2 * length ms
   below_in l h = let r = at_in t l h in subst (λ x. x < 2 * length ms) r.2 (k.below r.0 r.1)
 
   told_opposite : (l : ℕ) → opposite l ∈ t → code (get_or ms (l / 2) Open) ≡ 1 + opposite l % 2
@@ -82,12 +82,16 @@ module _ (cap : ℕ) (t : List ℕ) (ms : List Mark) (k : Marked cap t ms) where
   truth_false l e = false_when t l (λ h. omega (arith, told_in l h)) (heard_opposite l e)
 
   -- what a mark says of a literal of its value
-  pub truth_is : (l : ℕ) (m : Mark) → code (get_or ms (l / 2) Open) ≡ code m → truth_of t l ≡ said_by m l
-  truth_is l Open e = truth_open l e
+  pub truth_is : (l : ℕ) (m : Mark) → get_or ms (l / 2) Open ≡ m → truth_of t l ≡ truth_by m l
+  truth_is l Open e = truth_open l (ap code e)
   truth_is l In e =
-      ⊎_elim (λ z. rw (eq-eqb (l % 2) 0 z) (truth_true l (omega (arith, e)))) (λ z. rw (ne_eqb (l % 2) 0 z) (truth_false l (omega (arith, e)))) (cases_eq (l % 2) 0)
+      ⊎_elim (λ z. rw (eq-eqb (l % 2) 0 z) (truth_true l (ap code e ∙ omega arith))) (λ z. rw (ne_eqb (l % 2) 0 z) (truth_false l (ap code e ∙ omega arith))) (cases_eq (l % 2) 0)
   truth_is l Out e =
-      ⊎_elim (λ z. rw (eq-eqb (l % 2) 1 z) (truth_true l (omega (arith, e)))) (λ z. rw (ne_eqb (l % 2) 1 z) (truth_false l (omega (arith, e)))) (cases_eq (l % 2) 1)
+      ⊎_elim (λ z. rw (eq-eqb (l % 2) 1 z) (truth_true l (ap code e ∙ omega arith))) (λ z. rw (ne_eqb (l % 2) 1 z) (truth_false l (ap code e ∙ omega arith))) (cases_eq (l % 2) 1)
+
+  -- a literal of no value is open
+  pub truth_past : (l : ℕ) → length ms ≤ l / 2 → truth_of t l ≡ None
+  truth_past l h = truth_open l (ap code (get_or_past ms (l / 2) Open h))
 
   -- the mark of a value by the literals is the one that it has
   pub mark_is : (v : ℕ) → get_or ms v Open ≡ mark_of t v
@@ -168,7 +172,16 @@ module _ (cap : ℕ) (t : List ℕ) (ms : List Mark) (k : Marked cap t ms) where
           (λ ne. k.apart i j lt (omega arith) (ap (λ x. x / 2) (sym (early i (omega arith))) ∙ d ∙ ap (λ x. x / 2) (early j (omega arith))))
           (cases_eq j (length t))
 
+-- the element at hand stands before those that are left
+pub marked_at :
+    (cap : ℕ) (a xs : List ℕ) (ms : List Mark) (i x : ℕ) → i < length xs → x ≡ get_or xs i x → Marked cap (a ++ drop i xs) ms → Marked cap (a ++ x ∷ drop (i + 1) xs) ms
+marked_at cap a xs ms i x h e k = subst (λ u. Marked cap (a ++ u) ms) (drop_more xs i x h ∙ ap (λ y. y ∷ drop (i + 1) xs) (sym e)) k
+
 module _ (cap : ℕ) (a : List ℕ) (x : ℕ) (b : List ℕ) (ms : List Mark) (k : Marked cap (a ++ x ∷ b) ms) where
+  -- the value of the literal x has a mark
+  pub marked_here : x / 2 < length ms
+  marked_here = omega (arith, below_in cap (a ++ x ∷ b) ms k x (in_right a (x ∷ b) x (inl refl)))
+
   -- the literal x taken out, its value is open
   pub marked_without : Marked cap (a ++ b) (set ms (x / 2) Open)
   marked_without =
@@ -179,7 +192,7 @@ module _ (cap : ℕ) (a : List ℕ) (x : ℕ) (b : List ℕ) (ms : List Mark) (k
         heard = λ y z. has_from_in (a ++ b) y (heard y z);
         apart = λ i j lt h d. let v = was i (omega arith) in let w = was j h in
             k.apart v.0 w.0 (omega (arith, v.2, w.2)) (omega (arith, w.2, long, short)) (ap (λ y. y / 2) v.1 ∙ d ∙ ap (λ y. y / 2) (sym w.1));
-        room = omega (arith, long, short, length-set ms (x / 2) Open, opens_unset ms (x / 2) half (λ z. omega (arith, said)), k.room);
+        room = omega (arith, long, short, length-set ms (x / 2) Open, opens_unset ms (x / 2) marked_here (λ z. omega (arith, said)), k.room);
       }
     where
       long : length (a ++ x ∷ b) ≡ length a + suc (length b)
@@ -202,9 +215,6 @@ module _ (cap : ℕ) (a : List ℕ) (x : ℕ) (b : List ℕ) (ms : List Mark) (k
       said : code (get_or ms (x / 2) Open) ≡ 1 + x % 2
       said = told_in cap (a ++ x ∷ b) ms k x (in_right a (x ∷ b) x (inl refl))
 
-      half : x / 2 < length ms
-      half = omega (arith, below_in cap (a ++ x ∷ b) ms k x (in_right a (x ∷ b) x (inl refl)))
-
       other : (j : ℕ) → j < length (a ++ b) → get_or (a ++ b) j 0 / 2 ≢ x / 2
       other j lt z =
           let w = was j lt in
@@ -217,7 +227,7 @@ module _ (cap : ℕ) (a : List ℕ) (x : ℕ) (b : List ℕ) (ms : List Mark) (k
         where
           same : y / 2 ≡ x / 2 → y ∈ (a ++ b)
           same d =
-              let q : code Open ≡ 1 + y % 2 = ap code (sym (get_or-set_same ms (x / 2) Open Open half)) ∙ ap (λ v. code (get_or (set ms (x / 2) Open) v Open)) (sym d) ∙ z in
+              let q : code Open ≡ 1 + y % 2 = ap code (sym (get_or-set_same ms (x / 2) Open Open marked_here)) ∙ ap (λ v. code (get_or (set ms (x / 2) Open) v Open)) (sym d) ∙ z in
               absurd (omega arith)
 
           else' : (y / 2 ≡ x / 2 → ⊥) → y ∈ (a ++ b)

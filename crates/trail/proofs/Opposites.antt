@@ -1,12 +1,9 @@
 -- The opposite of a literal.
-use Rattle.std.proofs.Common.{◌≡◌, ℕ, ◌*◌, ◌/◌, ◌<◌, arith}
+use Rattle.std.proofs.Common.{◌≡◌, ℕ, ◌/◌, arith}
 use Rattle.theory.specs.Literals.{opposite}
 
 pub opposite_half : (l : ℕ) → opposite l / 2 ≡ l / 2
 opposite_half l = omega arith
-
-pub opposite_below : (l n : ℕ) → l < 2 * n → opposite l < 2 * n
-opposite_below l n h = omega arith
 
 pub opposite_twice : (l : ℕ) → opposite (opposite l) ≡ l
 opposite_twice l = omega arith

@@ -1,6 +1,7 @@
 ghost use Rattle.std.specs.Prelude.{vec_capacity};
 ghost use Rattle.trail.specs.Marked.{Marked};
 
+use literals::Literal;
 use theory::Mark;
 
 mod changes;
@@ -11,6 +12,6 @@ mod reads;
 #[derive(Drop)]
 pub struct Trail {
     marks: Vec<Mark>,
-    literals: Vec<u32>,
+    literals: Vec<Literal>,
     ghost ok: { ∥ Marked (vec_capacity literals) literals.items marks.items ∥₁ },
 }

@@ -115,7 +115,7 @@ mod tests {
         Ok(())
     }
 
-    // How many words two halves take, or the refusal's number.
+    // How many words two halves take, or the refusal's number, as a program prints it.
     fn halves(
         network: &Network,
         table: usize,

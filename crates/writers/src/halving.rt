@@ -8,6 +8,7 @@ ghost use Rattle.writers.specs.Halved.{Halved};
 use books::HalvesRefusal;
 use network::Network;
 
+// The words are the caller's, by a rule of the project.
 // Writes the two halves of a table, each as a stored book, and answers how many words each took.
 pub fn write_halves(
     network: &Network,

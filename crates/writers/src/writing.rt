@@ -8,6 +8,7 @@ use computed::ComputedBook;
 use network::Network;
 use theory::Encoding;
 
+// The words are the caller's, by a rule of the project.
 // Writes the clauses of a network as a stored book, and answers how many words it took.
 pub fn write(
     network: &Network,

@@ -1,4 +1,4 @@
-ghost use Rattle.std.specs.Prelude.{◌≡◌, ◌^◌, ◌<◌, IfOk};
+ghost use Rattle.std.specs.Prelude.{◌≡◌, IfOk};
 ghost use Rattle.clause_store.specs.Refusals.{FitsExactly};
 ghost use Rattle.clause_store.specs.Contents.{clauses_of};
 
@@ -14,9 +14,8 @@ impl ClauseStore {
     pub fn read<B: ClauseBook>(
         heap: Global,
         book: &B,
-        values: usize,
+        values: u32,
     ) -> Result<ClauseStore, OpenError>
-        requires { values < 2 ^ 31 }
         ensures fit { FitsExactly values (B.clauses book.now) result }
         ensures values { IfOk result (λ s. s.values ≡ values) }
         ensures clauses { IfOk result (λ s. clauses_of s ≡ B.clauses book.now) }

@@ -3,6 +3,7 @@ ghost use Rattle.theory.specs.Lists.{has};
 ghost use Rattle.clause_store.specs.Contents.{clauses_of, clause_of, holding_of};
 
 use super::ClauseStore;
+use literals::Literal;
 use std::alloc::Global;
 
 impl ClauseStore {
@@ -22,7 +23,7 @@ impl ClauseStore {
     pub fn values(&self) -> usize
         ensures { result ≡ self.now.values }
     {
-        self.values
+        self.values as usize
     }
 
     // How many clauses there are.
@@ -33,7 +34,7 @@ impl ClauseStore {
     }
 
     // The literals of clause i.
-    pub fn clause(&self, i: usize) -> &[u32]
+    pub fn clause(&self, i: usize) -> &[Literal]
         requires { i < length (clauses_of self.now) }
         ensures { result.now ≡ clause_of self.now i }
     {
@@ -41,11 +42,12 @@ impl ClauseStore {
     }
 
     // The clauses that hold a literal, by their numbers.
-    pub fn holding(&self, literal: u32) -> &[usize]
-        requires { literal < 2 * self.now.values }
+    pub fn holding(&self, literal: Literal) -> &[usize]
         ensures answer { result.now ≡ holding_of self.now literal }
         ensures exact { (i : ℕ) → has result.now i ≡ has (clause_of self.now i) literal }
     {
-        &self.holders[literal as usize]
+        self.holders
+            .get(literal.index())
+            .map_or(&[], |holders| holders.as_slice())
     }
 }

@@ -1,6 +1,5 @@
-ghost use Rattle.std.specs.Prelude.{◌≡◌, ◌<◌, false, map, length};
-ghost use Rattle.std.specs.List.{range_with_len};
-ghost use Rattle.propagator.specs.States.{state_of, has_clash, mark_in, SomeOpen};
+ghost use Rattle.std.specs.Prelude.{◌≡◌, ◌<◌, length, Some, None, MatchOption};
+ghost use Rattle.propagator.specs.States.{state_of, has_clash, known_mark, known_marks, SomeOpen};
 
 use super::Propagator;
 use theory::Mark;
@@ -28,20 +27,20 @@ impl Propagator {
         self.clashed
     }
 
-    // The mark of a value, where there is no clash.
-    pub fn mark(&self, n: usize) -> Mark
-        requires within { n < (state_of self.now).values }
-        requires calm { has_clash (state_of self.now) ≡ false }
-        ensures { result ≡ mark_in (state_of self.now) n }
+    // The marks of all values, in order: nothing in a clash.
+    pub fn marks(&self) -> Option<&[Mark]>
+        ensures { MatchOption result (known_marks (state_of self.now) ≡ None) (λ m. known_marks (state_of self.now) ≡ Some m.now) }
     {
-        self.trail.mark(n)
+        if self.clashed {
+            return None;
+        }
+        Some(self.trail.marks())
     }
 
-    // The marks of all values, in order, where there is no clash.
-    pub fn marks(&self) -> &[Mark]
-        requires calm { has_clash (state_of self.now) ≡ false }
-        ensures { result.now ≡ map (mark_in (state_of self.now)) (range_with_len 0 (state_of self.now).values) }
+    // The mark of a value: nothing in a clash, and nothing where there is no such value.
+    pub fn mark(&self, n: usize) -> Option<Mark>
+        ensures { result ≡ known_mark (state_of self.now) n }
     {
-        self.trail.marks()
+        self.marks()?.get(n).copied()
     }
 }

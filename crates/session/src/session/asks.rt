@@ -1,8 +1,9 @@
-ghost use Rattle.std.specs.Prelude.{◌≡◌, IfOk, Ok, Err, MatchResult};
+ghost use Rattle.std.specs.Prelude.{◌≡◌, IfOk, Some, Ok, Err, MatchResult};
 ghost use Rattle.theory.specs.Numbering.{number};
-ghost use Rattle.calls.specs.States.{counts_of, is_clashed, has_value};
+ghost use Rattle.propagator.specs.States.{state_of as inner_of, known_mark};
+ghost use Rattle.calls.specs.States.{counts_of, is_clashed, has_value, mark_at};
 ghost use Rattle.calls.specs.Replies.{checked, mark_reply, left_reply, value_reply, decisions_reply, clash_reply};
-ghost use Rattle.session.specs.Sessions.{state_of, Found, marks_reply};
+ghost use Rattle.session.specs.Sessions.{state_of, marks_reply};
 
 use super::Session;
 use calls::CallRefusal;
@@ -31,24 +32,22 @@ impl Session {
         self.inner.has_clash()
     }
 
-    // The number of a value that is there, where there is no clash.
-    pub(super) fn find(&self, point: usize, value: usize) -> Result<usize, CallRefusal>
-        ensures answer { result ≡ checked (has_value (state_of self.now) point value) (is_clashed (state_of self.now)) (Ok (number (counts_of (state_of self.now)) point value)) }
-        ensures found { IfOk result (λ n. Found (state_of self.now) point value n) }
+    // The number of a value that is there, and its mark, where there is no clash.
+    pub(super) fn find(&self, point: usize, value: usize) -> Result<(usize, Mark), CallRefusal>
+        ensures answer { result ≡ checked (has_value (state_of self.now) point value) (is_clashed (state_of self.now)) (Ok (number (counts_of (state_of self.now)) point value, mark_at (state_of self.now) point value)) }
+        ensures known { IfOk result (λ found. known_mark (inner_of self.now.inner) found.0 ≡ Some found.1) }
     {
         let n = numbering::number(&self.points, point, value).ok_or(CallRefusal::NoSuch)?;
-        if self.inner.has_clash() {
-            return Err(CallRefusal::Clashed);
-        }
-        Ok(n)
+        let mark = self.inner.mark(n).ok_or(CallRefusal::Clashed)?;
+        Ok((n, mark))
     }
 
     // The mark of a value.
     pub fn mark(&self, point: usize, value: usize) -> Result<Mark, CallRefusal>
         ensures { result ≡ mark_reply (state_of self.now) point value }
     {
-        let n = self.find(point, value)?;
-        Ok(self.inner.mark(n))
+        let (_, mark) = self.find(point, value)?;
+        Ok(mark)
     }
 
     // The marks of a point's values, in order.
@@ -58,12 +57,10 @@ impl Session {
         if point >= self.points.len() {
             return Err(CallRefusal::NoSuch);
         }
-        if self.inner.has_clash() {
-            return Err(CallRefusal::Clashed);
-        }
+        let marks = self.inner.marks().ok_or(CallRefusal::Clashed)?;
         let first = numbering::offset(&self.points, point);
         let count = numbering::count(&self.points, point);
-        Ok(&self.inner.marks()[first..first + count])
+        Ok(&marks[first..first + count])
     }
 
     // How many values of a point are not out.

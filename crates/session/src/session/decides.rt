@@ -1,8 +1,8 @@
-ghost use Rattle.std.specs.Prelude.{◌≡◌, ◌*◌, ◌/◌, ◌<◌, false, OnErr};
+ghost use Rattle.std.specs.Prelude.{◌≡◌, ◌/◌, Some, OnErr};
 ghost use Rattle.theory.specs.declared.Mark.TheVariants.{Open};
 ghost use Rattle.theory.specs.Literals.{is_in, is_out};
 ghost use Rattle.theory.specs.Numbering.{number};
-ghost use Rattle.propagator.specs.States.{state_of as inner_of, has_clash, mark_in};
+ghost use Rattle.propagator.specs.States.{state_of as inner_of, known_mark};
 ghost use Rattle.calls.specs.States.{counts_of, under};
 ghost use Rattle.calls.specs.Replies.{decide_reply, choose_reply, bar_reply, withdraw_reply};
 ghost use Rattle.calls.specs.Runs.{after_decided, after_withdrawn};
@@ -10,15 +10,13 @@ ghost use Rattle.session.specs.Sessions.{state_of};
 
 use super::Session;
 use calls::{CallRefusal, Decided, MAX_DECISIONS};
-use partners::literal;
+use literals::Literal;
 use theory::Mark;
 
 impl Session {
     // Decides a literal of an open value.
-    fn decide(&mut self, literal: u32) -> Result<Decided, CallRefusal>
-        requires within { literal < 2 * (inner_of self.old.inner).values }
-        requires calm { has_clash (inner_of self.old.inner) ≡ false }
-        requires fresh { mark_in (inner_of self.old.inner) (literal / 2) ≡ Open }
+    fn decide(&mut self, literal: Literal) -> Result<Decided, CallRefusal>
+        requires { known_mark (inner_of self.old.inner) (literal / 2) ≡ Some Open }
         ensures answer { result ≡ decide_reply (state_of self.old) literal }
         ensures state { state_of self.new ≡ under (state_of self.old) (after_decided (state_of self.old).decisions literal result) }
         ensures kept { OnErr result (self.new ≡ self.old) }
@@ -34,6 +32,7 @@ impl Session {
         }
     }
 
+    // That a refusal leaves the session as it was (`kept`) is a promise of each call.
     // Chooses a value: it is in, and what follows is marked.
     pub fn choose(&mut self, point: usize, value: usize) -> Result<Decided, CallRefusal>
         ensures answer { result ≡ choose_reply (state_of self.old) point value }
@@ -41,11 +40,11 @@ impl Session {
         ensures kept { OnErr result (self.new ≡ self.old) }
     {
         // `choose` and `bar` stay two: a function of the wanted mark would need its literal and its refusal as well
-        let n = self.find(point, value)?;
-        match self.inner.mark(n) {
+        let (n, mark) = self.find(point, value)?;
+        match mark {
             Mark::In => Ok(Decided::Already),
             Mark::Out => Err(CallRefusal::MarkedOut),
-            Mark::Open => self.decide(literal::is_in(n)),
+            Mark::Open => self.decide(Literal::is_in(n)),
         }
     }
 
@@ -55,11 +54,11 @@ impl Session {
         ensures state { state_of self.new ≡ under (state_of self.old) (after_decided (state_of self.old).decisions (is_out (number (counts_of (state_of self.old)) point value)) result) }
         ensures kept { OnErr result (self.new ≡ self.old) }
     {
-        let n = self.find(point, value)?;
-        match self.inner.mark(n) {
+        let (n, mark) = self.find(point, value)?;
+        match mark {
             Mark::In => Err(CallRefusal::MarkedIn),
             Mark::Out => Ok(Decided::Already),
-            Mark::Open => self.decide(literal::is_out(n)),
+            Mark::Open => self.decide(Literal::is_out(n)),
         }
     }
 
@@ -69,11 +68,10 @@ impl Session {
         ensures state { state_of self.new ≡ under (state_of self.old) (after_withdrawn (state_of self.old).decisions result) }
         ensures kept { OnErr result (self.new ≡ self.old) }
     {
-        // tested before: `Vec::pop` does not say that an empty vector stays as it was, and a refusal leaves the session so (`kept`)
-        if self.inner.count() == 0 {
-            return Err(CallRefusal::NothingToWithdraw);
+        if self.inner.withdraw() {
+            Ok(())
+        } else {
+            Err(CallRefusal::NothingToWithdraw)
         }
-        let _ = self.inner.withdraw();
-        Ok(())
     }
 }

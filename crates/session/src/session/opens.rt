@@ -32,7 +32,7 @@ impl Session {
         ensures answer { Opens (points_of points.now) (B.clauses book.now) (state_of self.new) result }
         ensures kept { OnErr result (self.new ≡ self.old) }
     {
-        let inner = Propagator::open(heap, book, points.total())?;
+        let inner = Propagator::open(heap, book, points.total() as u32)?;
         let points = Vec::from_slice(heap, points.points())?;
         *self = Session { points, inner };
         Ok(())

@@ -5,6 +5,7 @@ ghost use Rattle.trail.specs.Parts.{literals_of, values_of};
 ghost use Rattle.trail.specs.Truths.{truth_of};
 
 use super::Trail;
+use literals::Literal;
 use theory::Mark;
 
 impl Trail {
@@ -16,19 +17,11 @@ impl Trail {
     }
 
     // The literal at a place.
-    pub fn literal(&self, k: usize) -> u32
+    pub fn literal(&self, k: usize) -> Literal
         requires { k < length (literals_of self.now) }
         ensures { result ≡ slice_index (literals_of self.now) k }
     {
         self.literals[k]
-    }
-
-    // The mark of a value.
-    pub fn mark(&self, n: usize) -> Mark
-        requires { n < values_of self.now }
-        ensures { result ≡ mark_of (literals_of self.now) n }
-    {
-        self.marks[n]
     }
 
     // The marks of all values, in order.
@@ -39,14 +32,10 @@ impl Trail {
     }
 
     // Whether a literal is true: nothing where neither it nor its opposite is held.
-    pub fn truth(&self, literal: u32) -> Option<bool>
-        requires { literal < 2 * values_of self.now }
+    pub fn truth(&self, literal: Literal) -> Option<bool>
         ensures { result ≡ truth_of (literals_of self.now) literal }
     {
-        match self.marks[(literal / 2) as usize] {
-            Mark::Open => None,
-            Mark::In => Some(literal % 2 == 0),
-            Mark::Out => Some(literal % 2 == 1),
-        }
+        let mark = self.marks.get(literal.value())?;
+        literal.truth(*mark)
     }
 }

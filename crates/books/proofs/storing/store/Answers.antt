@@ -5,8 +5,8 @@ use Rattle.books.specs.Storing.{Holds}
 use Rattle.books.proofs.Reading.{stored_is, stored_says}
 use Rattle.books.proofs.storing.store.Goals as goal
 
-pub returns : goal.returns
-returns g c =
+pub returns-clause-book : goal.returns-clause-book
+returns-clause-book g c =
     let cs = g.B.ClauseBook.clauses c.args.book.now in
     let ws = c.args.words.now in
     let n : c.in_ok-needed.needed ≡ words_needed cs = c.in_ok-needed.ensures.0 in
@@ -20,7 +20,4 @@ returns g c =
     ap (λ t. (length cs ∷ ends_from (length cs + 1) cs) ++ t) (drop_at front back (1 + length cs) k) ∙
     sym (append_assoc (length cs ∷ ends_from (length cs + 1) cs) (row cs) (drop (words_needed cs) ws)) ∙
     ap (λ m. (length cs ∷ (ends_from (length cs + 1) cs ++ row cs)) ++ drop m ws) (sym n) in
-    record {
-      answer = (n, room, is);
-      book = subst (Holds cs) (sym is) (stored_is cs (drop c.in_ok-needed.needed ws), stored_says cs (drop c.in_ok-needed.needed ws));
-    }
+    subst (Holds cs) (sym is) (stored_is cs (drop c.in_ok-needed.needed ws), stored_says cs (drop c.in_ok-needed.needed ws))

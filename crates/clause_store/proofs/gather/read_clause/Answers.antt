@@ -10,8 +10,9 @@ loop-j-preserved g c =
     let j = c.loop-j.j in
     let lt : j < length cl = omega arith in
     let v = c.deref.ensures.value ∙ c.loop-j.invariant.read in
+    let l = c.from-literal.ensures ∙ c.literal.ensures in
     record {
-      read = c.in_ok-push.ensures.items ∙ ap (λ x. x ++ c.literal-literal.result ∷ []) c.loop-j.invariant.read ∙ ap (λ y. take j cl ++ y ∷ []) c.literal-literal.ensures ∙ sym (take_more cl j 0 lt);
-      below = below_more (λ k. get_or cl k 0 < 2 * c.args.values) j c.loop-j.invariant.below (omega (arith, c.literal-literal.ensures, c.if-value-values.false));
-      apart = apart_more j cl lt c.loop-j.invariant.apart (λ n. c.if-names_value.ensures (subst₂ NamesValue (sym v) (ap (λ x. x / 2) (sym c.literal-literal.ensures)) n));
+      read = c.in_ok-push.ensures.items ∙ ap (λ x. x ++ c.from-literal.result ∷ []) c.loop-j.invariant.read ∙ ap (λ y. take j cl ++ y ∷ []) l ∙ sym (take_more cl j 0 lt);
+      below = below_more (λ k. get_or cl k 0 < 2 * c.args.values) j c.loop-j.invariant.below (omega (arith, l, c.value-value.ensures, c.if-value-values.false));
+      apart = apart_more j cl lt c.loop-j.invariant.apart (λ n. c.if-names_value.ensures (subst₂ NamesValue (sym v) (ap (λ x. x / 2) (sym l) ∙ sym c.value-value.ensures) n));
     }

@@ -1,5 +1,5 @@
 use Rattle.std.proofs.Common.{◌≡◌, ◌<◌, [], ◌∷◌, ◌++◌, length, get_or, vec_items, set, sym, ap, ◌∙◌, arith}
-use Rattle.std.proofs.lemmas.List.{length-map, map-set, get_or-map}
+use Rattle.std.proofs.lemmas.List.{get_or_read, length-map, map-set, get_or-map}
 use Rattle.theory.specs.Lists.{has}
 use Rattle.books.specs.Lists.{lists_of}
 use Rattle.clause_store.proofs.Indexing.{held_more}
@@ -10,11 +10,12 @@ loop-literal-preserved c = λ m j.
     let hs = c.loop-literal.holders in
     let cl = c.args.clause.now in
     let k = c.loop-literal.literal-index in
-    let x = get_or cl k 0 in
-    let v = c.index-holders-literal.result in
-    let lt : x < length hs = omega (arith, c.requires k c.loop-literal-test.true) in
+    let x = c.index.result in
+    let at : x ≡ get_or cl k 0 = c.index.ensures ∙ get_or_read cl k _ c.loop-literal-test.true c.literal-item.is 0 in
+    let v = c.index-holders-index.result in
+    let lt : x < length hs = omega (arith, at, c.requires k c.loop-literal-test.true) in
     let old : vec_items (get_or hs x v) ≡ get_or (lists_of hs) x [] = sym (get_or-map vec_items hs x v [] lt) in
     let now : lists_of (set hs x c.push.new.self) ≡ set (lists_of hs) x (get_or (lists_of hs) x [] ++ c.args.i ∷ []) =
     map-set vec_items hs x c.push.new.self ∙ ap (set (lists_of hs) x) (c.in_ok-push.ensures.items ∙ ap (λ y. y ++ c.args.i ∷ []) old) in
-    ap (λ y. has (get_or y m []) j) now ∙
-    held_more (lists_of hs) (lists_of c.args.holders.now) cl k c.args.i m j c.loop-literal-test.true (omega (arith, length-map hs vec_items)) (c.loop-literal.invariant m j)
+    ap (λ y. has (get_or y m []) j) now ∙ ap (λ n. has (get_or (set (lists_of hs) n (get_or (lists_of hs) n [] ++ c.args.i ∷ [])) m []) j) at ∙
+    held_more (lists_of hs) (lists_of c.args.holders.now) cl k c.args.i m j c.loop-literal-test.true (omega (arith, at, length-map hs vec_items)) (c.loop-literal.invariant m j)

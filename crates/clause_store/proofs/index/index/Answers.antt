@@ -26,7 +26,7 @@ add_holder-requires c = λ k h.
     let x = get_or c.deref.result.now k 0 in
     omega (
       arith,
-      c.requires.within (get_or cs i []) here x (subst (λ xs. x ∈ xs) is (in_at c.deref.result.now 0 k h)),
+      c.requires (get_or cs i []) here x (subst (λ xs. x ∈ xs) is (in_at c.deref.result.now 0 k h)),
       c.deref_mut.ensures.len,
       ap length c.deref_mut.ensures.value,
       c.loop-i.invariant.wide,

@@ -2,13 +2,21 @@ use Rattle.std.proofs.Common.{◌≡◌, [], vec_items, sym, ap, ◌∙◌, arit
 use Rattle.theory.specs.declared.Side.{Side}
 use Rattle.theory.specs.declared.Side.TheVariants.{Lower, Higher}
 use Rattle.theory.specs.Encodings.{half}
+use Rattle.network.specs.declared.points.PointList.{PointList}
+use Rattle.network.specs.declared.table.Table.{Table}
 use Rattle.network.specs.Contents.{meaning}
 use Rattle.network.specs.Points.{counts_of}
 use Rattle.network.specs.Tables.{table_of}
+use Rattle.partners.specs.Ends.{half_of}
+use Rattle.computed.specs.declared.half.HalfBook.{HalfBook}
 use Rattle.computed.specs.Scores.{half_at}
 use Rattle.computed.proofs.AtTable.{table_at, tables_length}
-use Rattle.computed.proofs.HalfClauses.{half_is}
 use Rattle.computed.proofs.halves.table_halves.Goals as goal
+
+-- the clauses of a half book, by what it is made of
+half_is :
+    (b : HalfBook) (ps : PointList) (x : Table) (s : Side) → b.end.points.now ≡ ps → b.end.table.now ≡ x → b.end.side ≡ s → half_of b.end ≡ half (counts_of ps) s (table_of x)
+half_is b ps x s points table side = λ i. half (counts_of (points i)) (side i) (table_of (table i))
 
 pub returns : goal.returns
 returns c =

@@ -10,7 +10,7 @@ use Rattle.computed.proofs.point_pairs.at_most_one.Goals as goal
 pub returns-in_err-p : goal.returns-in_err-p
 returns-in_err-p c =
     let ks = counts_of c.args.points.now in
-    ap (option_map (clause_of ks)) c.from_residual.ensures ∙
+    ap (option_map clause_of) c.from_residual.ensures ∙
     none_below _ (not_two ks) c.len.result c.args.n c.locate.result c.locate.ensures (λ i r h k. search rules) c.in_err-p.was ∙
     ap (λ m. slice_get (flat_map (not_two ks) (range_with_len 0 m)) c.args.n) c.len.ensures
 

@@ -1,4 +1,4 @@
-use Rattle.std.proofs.Common.{◌≡◌, ◌+◌, ◌-◌, ◌<◌, [], ◌∷◌, Some, slice_get, sym, ap, ◌∙◌, arith, rules}
+use Rattle.std.proofs.Common.{◌≡◌, ◌+◌, ◌-◌, ◌^◌, ◌<◌, [], ◌∷◌, Some, slice_get, sym, ap, ◌∙◌, arith, rules}
 use Rattle.std.specs.List.{range_with_len, flat_map}
 use Rattle.std.specs.Option.{option_map}
 use Rattle.theory.specs.Encodings.{not_with_later}
@@ -16,7 +16,7 @@ returns-in_err-i c =
     let ks = counts_of c.args.points.now in
     let p = c.args.p in
     let n = c.count-count.result in
-    ap (option_map (clause_of ks)) c.from_residual.ensures ∙
+    ap (option_map clause_of) c.from_residual.ensures ∙
     none_below _ (not_with_later ks p) n c.args.n c.locate.result c.locate.ensures
     (λ i r h k. let e : r ≡ n - (i + 1) = search rules in omega (arith, e, length_later ks p i, c.count-count.ensures.value)) c.in_err-i.was ∙
     ap (λ m. slice_get (flat_map (not_with_later ks p) (range_with_len 0 m)) c.args.n) c.count-count.ensures.value
@@ -32,20 +32,25 @@ within c =
     (λ i r h k. let e : r ≡ n - (i + 1) = search rules in omega (arith, e, length_later ks p i, c.count-count.ensures.value)) c.in_ok-i.i c.in_ok-i.left c.in_ok-i.was in
     (w.0, omega (arith, w.1, length_later ks p c.in_ok-i.i, c.count-count.ensures.value))
 
+-- both value numbers are small
+
+small : (c : After-offset) → c.offset.result + c.in_ok-i.i + 1 + c.in_ok-i.left < 2 ^ 31
+small c = omega (arith, within c, c.offset.ensures.bound, c.count-count.ensures.bound)
+
 pub overflow_add-value : goal.overflow_add-value
-overflow_add-value c = omega (arith, within c, c.offset.ensures.bound, c.count-count.ensures.bound)
+overflow_add-value c = omega (arith, small c)
 
 pub overflow_add-other : goal.overflow_add-other
-overflow_add-other c = omega (arith, within c, c.offset.ensures.bound, c.count-count.ensures.bound)
+overflow_add-other c = omega (arith, small c)
 
 pub overflow_add-other-2 : goal.overflow_add-other-2
-overflow_add-other-2 c = omega (arith, within c, c.offset.ensures.bound, c.count-count.ensures.bound)
+overflow_add-other-2 c = omega (arith, small c)
 
 pub is_out-requires : goal.is_out-requires
-is_out-requires c = omega (arith, within c, c.offset.ensures.bound, c.count-count.ensures.bound)
+is_out-requires c = omega (arith, small c)
 
 pub is_out-requires-2 : goal.is_out-requires-2
-is_out-requires-2 c = omega (arith, within c.before, c.offset.ensures.bound, c.count-count.ensures.bound)
+is_out-requires-2 c = omega (arith, small c.before)
 
 pub returns : goal.returns
 returns c =

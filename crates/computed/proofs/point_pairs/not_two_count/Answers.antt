@@ -1,4 +1,4 @@
-use Rattle.std.proofs.Common.{◌≡◌, ◌+◌, ◌*◌, length, mul-le-mul_right, arith}
+use Rattle.std.proofs.Common.{◌≡◌, ◌+◌, ◌*◌, length, arith}
 use Rattle.theory.specs.Encodings.{not_two}
 use Rattle.network.specs.Points.{counts_of}
 use Rattle.computed.proofs.Pairs.{twice_not_two}
@@ -8,7 +8,5 @@ twice : (c : goal.After-count-values) → 2 * length (not_two (counts_of c.args.
     c.count-values.result * c.count-values.result
 twice c = rw c.count-values.ensures.value (twice_not_two (counts_of c.args.points.now) c.args.p)
 
-pub returns : goal.returns
-returns c =
-    let most = mul-le-mul_right c.count-values.result c.count-values.ensures.bound in
-    record { value = omega (arith, twice c); bound = omega (arith, twice c) }
+pub returns-clause-value : goal.returns-clause-value
+returns-clause-value c = omega (arith, twice c)

@@ -1,11 +1,10 @@
 use Rattle.std.proofs.Common.{◌≡◌, ◌+◌, ◌≤◌, false, ◌&&◌, leb, length, drop, Ok, Err, sym, ap, ◌∙◌, arith}
 use Rattle.std.proofs.lemmas.Result.{err_from_is_err_and}
-use Rattle.std.proofs.lemmas.Bool.{and_parts, leb-true}
 use Rattle.netfile.specs.Bytes.{body_length}
 use Rattle.netfile.specs.Records.{item_of, kind_of_item}
 use Rattle.netfile.specs.Reading.{State, after, next_at, read_from}
 use Rattle.netfile.specs.Drafts.{state_of, ended}
-use Rattle.netfile.proofs.Runs.{read_on_lem, read_stop, read_end, after_pairs}
+use Rattle.netfile.proofs.Runs.{read_on_lem, read_stop, after_pairs}
 use Rattle.netfile.proofs.loading.draft_of.Goals as goal
 
 pub returns-in_err-record : goal.returns-in_err-record
@@ -43,13 +42,3 @@ loop-reader-preserved c =
       ap (λ t. read_from t c.next.new.self.cursor.position 0 (drop c.next.new.self.cursor.position bs)) state ∙
           ap (λ n. read_from (after s x) n 0 (drop n bs)) moves ∙ sym (read_on_lem bs s p x next far) ∙ c.loop-reader.invariant.2,
     )
-
-pub returns : goal.returns
-returns c =
-    let bs = c.args.file.now in
-    let r = c.loop-reader.reader in
-    let p = r.cursor.position in
-    let s = state_of r.draft in
-    let both = and_parts (ended s.expect) (leb (length r.cursor.file.now) p) (sym c.done.ensures ∙ c.loop-reader-test.false) in
-    let all = leb-true (length r.cursor.file.now) p both.1 in
-    sym c.loop-reader.invariant.2 ∙ read_end bs s p both.0 (omega (arith, all, ap length c.loop-reader.invariant.0))

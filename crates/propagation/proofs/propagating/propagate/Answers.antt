@@ -1,18 +1,17 @@
 use Rattle.std.proofs.Common.{◌≡◌, ℕ, ◌+◌, ◌<◌, List, length, get_or, sym, ap, ◌∙◌, subst, arith}
 use Rattle.std.proofs.lemmas.List.{get_or_append_left}
-use Rattle.std.proofs.lemmas.Result.{err_from_is_err_and}
 use Rattle.theory.specs.Lists.{◌∈◌}
 use Rattle.theory.specs.Literals.{opposite}
 use Rattle.clause_store.specs.Contents.{clauses_of}
 use Rattle.clause_store.proofs.Clauses.{clauses_within}
 use Rattle.trail.specs.Parts.{literals_of}
-use Rattle.trail.proofs.Opposites.{opposite_below}
-use Rattle.trail.proofs.Invariant.{trail_short, trail_below, trail_apart}
+use Rattle.trail.proofs.Invariant.{trail_short, trail_apart}
 use Rattle.propagation.specs.Finds.{Still}
 use Rattle.propagation.specs.Outcomes.{outcome}
 use Rattle.propagation.proofs.Reaching.{clash_computed}
 use Rattle.propagation.proofs.Queueing.{grew_step, grew_length, clash_later, done_grows, done_later, done_next, done_all}
 use Rattle.propagation.proofs.Exactness.{still_holds, apart_calm}
+use Rattle.propagation.proofs.Outcomes.{err_outcome}
 use Rattle.propagation.proofs.propagating.propagate.Goals as goal
 
 pub loop-next-smaller : goal.loop-next-smaller
@@ -50,8 +49,7 @@ returns-in_err-sweep-clause-answer c =
     let b = c.args.store.now in
     let t = literals_of c.args.trail.now in
     let k = clash_later (clauses_of b) t (literals_of c.loop-next.trail) c.loop-next.invariant.grew c.in_err-sweep.ensures.clash in
-    let p = err_from_is_err_and c.from_residual.result c.from_residual.ensures.1 in
-    p.1 ∙ sym (ap outcome (clash_computed b.values (clauses_of b) (clauses_within b) t k))
+    err_outcome _ c.from_residual.result _ c.from_residual.ensures.1 (clash_computed b.values (clauses_of b) (clauses_within b) t k)
 
 pub returns : goal.returns
 returns c =

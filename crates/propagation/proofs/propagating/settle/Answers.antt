@@ -1,5 +1,5 @@
-use Rattle.std.proofs.Common.{[], sym, ap, ◌∙◌, subst}
-use Rattle.std.proofs.lemmas.Result.{err_from_is_err_and, on_ok_weaker}
+use Rattle.std.proofs.Common.{[], ap, ◌∙◌, subst}
+use Rattle.std.proofs.lemmas.Result.{on_ok_weaker}
 use Rattle.clause_store.specs.Contents.{clauses_of}
 use Rattle.clause_store.proofs.Clauses.{clauses_within}
 use Rattle.trail.specs.Parts.{literals_of}
@@ -8,14 +8,14 @@ use Rattle.propagation.specs.Queue.{Grew}
 use Rattle.propagation.specs.Outcomes.{outcome}
 use Rattle.propagation.proofs.Reaching.{clash_computed, same_reached, same_clash}
 use Rattle.propagation.proofs.Queueing.{grew_step, grew_back}
+use Rattle.propagation.proofs.Outcomes.{err_outcome}
 use Rattle.propagation.proofs.propagating.settle.Goals as goal
 
 pub returns-in_err-visit_all-clause-answer : goal.returns-in_err-visit_all-clause-answer
 returns-in_err-visit_all-clause-answer c =
     let b = c.args.store.now in
     let k = subst (Clash (clauses_of b)) c.requires.bare c.in_err-visit_all.ensures.clash in
-    let p = err_from_is_err_and c.from_residual.result c.from_residual.ensures.1 in
-    p.1 ∙ sym (ap outcome (clash_computed b.values (clauses_of b) (clauses_within b) [] k))
+    err_outcome _ c.from_residual.result _ c.from_residual.ensures.1 (clash_computed b.values (clauses_of b) (clauses_within b) [] k)
 
 pub returns : goal.returns
 returns c =

@@ -1,11 +1,11 @@
 use Rattle.std.proofs.Common.{◌<◌, length, get_or, sym, ap, ◌∙◌, subst, arith, below_more}
-use Rattle.std.proofs.lemmas.Result.{err_from_is_err_and}
 use Rattle.clause_store.specs.Contents.{clauses_of, clause_of, holding_of}
 use Rattle.clause_store.proofs.Clauses.{holder_at_below, held_by}
 use Rattle.trail.specs.Parts.{literals_of}
 use Rattle.propagation.specs.Finds.{Still}
 use Rattle.propagation.specs.Queue.{Done}
 use Rattle.propagation.proofs.Queueing.{grew_step, grew_length, clash_later, done_grows}
+use Rattle.propagation.proofs.Outcomes.{err_says}
 use Rattle.propagation.proofs.visiting.sweep.Goals as goal
 
 pub visit-requires-clause-within : goal.visit-requires-clause-within
@@ -40,7 +40,7 @@ returns-in_err-visit-clause-grew c = grew_step _ _ _ _ c.loop-i.invariant.grew c
 
 pub returns-in_err-visit-clause-clash : goal.returns-in_err-visit-clause-clash
 returns-in_err-visit-clause-clash c =
-    let p = err_from_is_err_and c.from_residual.result c.from_residual.ensures.1 in rw p.1 (clash_later _ _ _ c.loop-i.invariant.grew c.in_err-visit.ensures.clash)
+    err_says _ c.from_residual.result c.from_residual.ensures.1 (clash_later _ _ _ c.loop-i.invariant.grew c.in_err-visit.ensures.clash)
 
 pub returns-clause-calm : goal.returns-clause-calm
 returns-clause-calm c = λ cl h i.

@@ -11,5 +11,5 @@ invariant-loop-i l =
     record {
       many : values_of l.trail ≡ values_of l.initial.trail;
       grew : Grew (clauses_of b) t (literals_of l.trail);
-      done : (k : ℕ) → k < l.i-index → Done (literals_of l.trail) (length t) (clause_of b (get_or (holding_of b l.literal) k 0));
+      done : (k : ℕ) → k < l.i-index → Done (literals_of l.trail) (length t) (clause_of b (get_or (holding_of b l.fn.literal) k 0));
     }

@@ -1,21 +1,13 @@
-use Rattle.std.proofs.Common.{get_or, Some, None, Ok, subst, subst₂, arith}
-use Rattle.std.proofs.lemmas.Result.{err_from_is_err_and}
+use Rattle.std.proofs.Common.{Some, None, Ok, subst, subst₂, arith}
 use Rattle.theory.specs.Lists.{◌∈◌}
-use Rattle.theory.proofs.Members.{in_at}
 use Rattle.clause_store.specs.Contents.{clauses_of, clause_of}
 use Rattle.clause_store.proofs.Clauses.{clause_below, clause_in, clause_some}
 use Rattle.trail.specs.Parts.{literals_of}
 use Rattle.trail.proofs.Invariant.{trail_apart}
 use Rattle.propagation.specs.Finds.{Only, Still, Finds}
 use Rattle.propagation.proofs.Queueing.{grew_push, clash_refuted, still_push}
+use Rattle.propagation.proofs.Outcomes.{err_says}
 use Rattle.propagation.proofs.visiting.visit.Goals as goal
-
-pub scan-requires : goal.scan-requires
-scan-requires c = λ k h.
-    let cl = c.clause.result.now in
-    let b = c.args.store.now in
-    let i = subst (λ y. (get_or cl k 0) ∈ y) c.clause.ensures (in_at cl 0 k h) in
-    omega (arith, clause_below b c.args.i (get_or cl k 0) i, c.requires.sized)
 
 pub returns-in_err-literal-clause-clash : goal.returns-in_err-literal-clause-clash
 returns-in_err-literal-clause-clash c =
@@ -24,8 +16,7 @@ returns-in_err-literal-clause-clash c =
     let cl = clause_of b c.args.i in
     let k : Only t cl None = subst (λ x. Only t x None) c.clause.ensures c.in_err-literal.ensures in
     let w = clause_some b c.args.i c.requires.within in
-    let p = err_from_is_err_and c.from_residual.result c.from_residual.ensures.1 in
-    rw p.1 (clash_refuted (clauses_of b) t cl w.0 (clause_in b c.args.i c.requires.within) w.1 k)
+    err_says _ c.from_residual.result c.from_residual.ensures.1 (clash_refuted (clauses_of b) t cl w.0 (clause_in b c.args.i c.requires.within) w.1 k)
 
 pub push-requires-clause-within : goal.push-requires-clause-within
 push-requires-clause-within c =

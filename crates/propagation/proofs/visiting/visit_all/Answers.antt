@@ -1,10 +1,10 @@
 use Rattle.std.proofs.Common.{sym, ◌∙◌, subst, arith, below_more}
-use Rattle.std.proofs.lemmas.Result.{err_from_is_err_and}
 use Rattle.clause_store.specs.Contents.{clauses_of, clause_of}
 use Rattle.clause_store.proofs.Clauses.{in_clauses}
 use Rattle.trail.specs.Parts.{literals_of}
 use Rattle.propagation.specs.Queue.{Done}
 use Rattle.propagation.proofs.Queueing.{grew_step, clash_later, done_grows}
+use Rattle.propagation.proofs.Outcomes.{err_says}
 use Rattle.propagation.proofs.visiting.visit_all.Goals as goal
 
 pub loop-i-preserved : goal.loop-i-preserved
@@ -28,7 +28,7 @@ returns-in_err-visit-clause-grew c = grew_step _ _ _ _ c.loop-i.invariant.grew c
 
 pub returns-in_err-visit-clause-clash : goal.returns-in_err-visit-clause-clash
 returns-in_err-visit-clause-clash c =
-    let p = err_from_is_err_and c.from_residual.result c.from_residual.ensures.1 in rw p.1 (clash_later _ _ _ c.loop-i.invariant.grew c.in_err-visit.ensures.clash)
+    err_says _ c.from_residual.result c.from_residual.ensures.1 (clash_later _ _ _ c.loop-i.invariant.grew c.in_err-visit.ensures.clash)
 
 pub returns-clause-calm : goal.returns-clause-calm
 returns-clause-calm c = λ cl h.

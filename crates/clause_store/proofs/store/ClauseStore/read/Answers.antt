@@ -5,8 +5,8 @@ use Rattle.clause_store.specs.Index.{NoneBare, Indexes}
 use Rattle.clause_store.proofs.Gathering.{fit_within}
 use Rattle.clause_store.proofs.store.ClauseStore.read.Goals as goal
 
-pub index-requires-clause-within : goal.index-requires-clause-within
-index-requires-clause-within g c =
+pub index-requires : goal.index-requires
+index-requires g c =
     let cs = g.B.ClauseBook.clauses c.args.book.now in
     let k = c.in_ok-clauses.ensures in
     subst (Within c.args.values) (sym (ap lists_of c.deref.ensures.value ∙ k.clauses)) (fit_within c.args.values cs k.fit)

@@ -1,12 +1,10 @@
-use Rattle.std.proofs.Common.{◌≡◌, ◌-◌, [], length, Some, slice_get, sym, ap, ◌∙◌, arith}
+use Rattle.std.proofs.Common.{◌≡◌, ◌-◌, length, Some, slice_get, sym, ap, ◌∙◌, arith}
 use Rattle.std.specs.List.{flat_map}
-use Rattle.std.specs.Option.{option_map}
-use Rattle.std.proofs.lemmas.List.FromFn.{length-map-range_with_len, get_or-map-range_with_len}
-use Rattle.std.proofs.lemmas.Option.{slice_get-get_or}
+use Rattle.std.proofs.lemmas.List.FromFn.{length-map-range_with_len}
 use Rattle.theory.specs.Encodings.{some_clause, at_least_one, at_most_one, table_clauses}
 use Rattle.network.specs.Contents.{meaning}
 use Rattle.network.specs.Points.{counts_of}
-use Rattle.computed.specs.Ids.{clause_of}
+use Rattle.computed.proofs.Mapped.{mapped_get}
 use Rattle.computed.proofs.ThreeParts.{in_first, in_second, in_third}
 use Rattle.computed.proofs.book.ComputedBook.locate.Goals as goal
 
@@ -19,8 +17,9 @@ returns-then-i-some c =
     let n = length ks in
     let long = length-map-range_with_len (some_clause ks) 0 n in
     let few = ap (λ ps. length (counts_of ps)) c.points-points.ensures in
+    ap (λ ps. Some (some_clause (counts_of ps) i)) c.points-points.ensures ∙
     sym (in_first (at_least_one ks) (at_most_one ks) (flat_map (table_clauses b.encoding ks) net.tables) i n long (omega arith) ∙
-    slice_get-get_or (at_least_one ks) i [] (omega arith) ∙ ap Some (get_or-map-range_with_len (some_clause ks) 0 n i i [] (omega arith) (omega arith)))
+    mapped_get (some_clause ks) n i (omega arith))
 
 pub returns-then-i-some-2 : goal.returns-then-i-some-2
 returns-then-i-some-2 c =
@@ -32,7 +31,7 @@ returns-then-i-some-2 c =
     let long : length (at_least_one ks) ≡ n =
     length-map-range_with_len (some_clause ks) 0 (length ks) ∙ sym (c.len-some.ensures ∙ ap (λ ps. length (counts_of ps)) c.points-points.ensures) in
     let many = ap (λ ps. length (at_most_one (counts_of ps))) c.points-points.ensures in
-    ap (λ ps. option_map (clause_of (counts_of ps)) c.at_most_one.result) (sym c.points-points.ensures) ∙ c.at_most_one.ensures ∙
+    c.at_most_one.ensures ∙
     ap (λ ps. slice_get (at_most_one (counts_of ps)) (i - n)) c.points-points.ensures ∙
     sym (in_second (at_least_one ks) (at_most_one ks) (flat_map (table_clauses b.encoding ks) net.tables) i n long (omega arith) (omega arith))
 

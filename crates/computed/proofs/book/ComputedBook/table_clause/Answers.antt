@@ -18,7 +18,7 @@ returns-in_err-k c =
     let m = meaning net in
     let us = c.tables-tables.result.now in
     let long = tables_length us (vec_items net.tables) c.tables-tables.ensures.value in
-    ap (option_map (clause_of m.counts)) c.from_residual.ensures ∙
+    ap (option_map clause_of) c.from_residual.ensures ∙
     found_none _ (table_clauses e m.counts) m.tables (length us) c.args.n c.locate.result long c.locate.ensures
     (λ i r h k. search (rules, size_at e m c.args.self.now.sizes c.args.self.now.sized i)) c.in_err-k.was
 
@@ -55,7 +55,7 @@ returns c =
     let f = table_clauses e m.counts in
     let lt = (found_within _ f m.tables (length us) c.args.n c.locate.result long c.locate.ensures
     (λ i r h k. search (rules, size_at e m c.args.self.now.sizes c.args.self.now.sized i)) k l c.in_ok-k.was).0 in
-    ap (λ ps. option_map (clause_of (counts_of ps)) c.clause.result) (sym c.points.ensures) ∙ c.clause.ensures ∙
+    c.clause.ensures ∙
     ap (λ ps. slice_get (table_clauses e (counts_of ps) (table_of x)) l) c.points.ensures ∙
     ap (λ b. slice_get b l) (sym (table_at us vs same f k [] x lt c.index-tables-k.is)) ∙
     found_there _ f m.tables (length us) c.args.n c.locate.result long c.locate.ensures

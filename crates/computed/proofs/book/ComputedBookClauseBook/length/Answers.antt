@@ -6,5 +6,5 @@ use Rattle.computed.proofs.book.ComputedBookClauseBook.length.Goals as goal
 
 pub returns : goal.returns
 returns c =
-    let net = meaning c.args.self.now.network.now in
-    read_named length net.counts (clauses c.args.self.now.encoding net) c.args.i _ c.map_or.result (λ id k. search rules) c.locate.result c.locate.ensures c.map_or.ensures
+    read_named (clauses c.args.self.now.encoding (meaning c.args.self.now.network.now)) c.args.i c.locate.result c.as_ref.result c.as_ref.ensures.value c.locate.ensures
+    length _ c.map_or.result (λ id k. search rules) c.map_or.ensures

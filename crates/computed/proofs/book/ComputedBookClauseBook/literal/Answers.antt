@@ -1,10 +1,10 @@
-use Rattle.std.proofs.Common.{get_or, rules}
+use Rattle.std.proofs.Common.{rules}
 use Rattle.theory.specs.Encodings.{clauses}
 use Rattle.network.specs.Contents.{meaning}
-use Rattle.computed.proofs.Named.{read_named}
+use Rattle.computed.proofs.Named.{read_literal}
 use Rattle.computed.proofs.book.ComputedBookClauseBook.literal.Goals as goal
 
 pub returns : goal.returns
 returns c =
-    let net = meaning c.args.self.now.network.now in
-    read_named (λ l. get_or l c.args.j 0) net.counts (clauses c.args.self.now.encoding net) c.args.i _ c.map_or.result (λ id k. search rules) c.locate.result c.locate.ensures c.map_or.ensures
+    read_literal (clauses c.args.self.now.encoding (meaning c.args.self.now.network.now)) c.args.i c.locate.result c.as_ref.result c.as_ref.ensures.value c.locate.ensures
+    c.args.j _ c.and_then.result (λ id k. search rules) c.and_then.ensures _ c.map_or.result (λ l k. search rules) c.map_or.ensures

@@ -1,16 +1,9 @@
-use Rattle.std.proofs.Common.{get_or, sym, ap, ◌∙◌, arith}
-use Rattle.network.specs.Points.{counts_of}
-use Rattle.network.specs.Tables.{table_of}
-use Rattle.computed.proofs.HalfClauses.{half_at, half_past}
+use Rattle.std.proofs.Common.{rules}
+use Rattle.partners.specs.Ends.{half_of}
+use Rattle.computed.proofs.Named.{read_literal}
 use Rattle.computed.proofs.half.HalfBookClauseBook.literal.Goals as goal
 
-pub returns-then-i-values : goal.returns-then-i-values
-returns-then-i-values c =
-    let e = c.args.self.now.end in
-    c.support_literal.ensures ∙
-    sym (ap (λ l. get_or l c.args.j 0) (half_at (counts_of e.points.now) e.side (table_of e.table.now) c.args.i (omega (arith, c.if-i-values.true, c.values.ensures.value))))
-
-pub returns-else-i-values : goal.returns-else-i-values
-returns-else-i-values c =
-    let e = c.args.self.now.end in
-    sym (ap (λ l. get_or l c.args.j 0) (half_past (counts_of e.points.now) e.side (table_of e.table.now) c.args.i (omega (arith, c.if-i-values.false, c.values.ensures.value))))
+pub returns : goal.returns
+returns c =
+    read_literal (half_of c.args.self.now.end) c.args.i c.clause.result c.as_ref.result c.as_ref.ensures.value c.clause.ensures
+    c.args.j _ c.and_then.result (λ id k. search rules) c.and_then.ensures _ c.map_or.result (λ l k. search rules) c.map_or.ensures

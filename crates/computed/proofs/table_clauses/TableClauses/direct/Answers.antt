@@ -13,7 +13,7 @@ pub returns-in_err-i : goal.returns-in_err-i
 returns-in_err-i c =
     let ks = counts_of c.args.self.now.points.now in
     let f = barred_with ks (table_of c.args.self.now.table.now) in
-    ap (option_map (clause_of ks)) c.from_residual.ensures ∙
+    ap (option_map clause_of) c.from_residual.ensures ∙
     none_below _ f c.count-values.result c.args.n c.locate.result c.locate.ensures (λ i r h k. search rules) c.in_err-i.was ∙
     ap (λ m. slice_get (flat_map f (range_with_len 0 m)) c.args.n) (c.count-values.ensures.value ∙ ap (count ks) c.low.ensures)
 

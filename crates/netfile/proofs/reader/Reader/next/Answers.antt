@@ -5,8 +5,10 @@ use Rattle.network.specs.declared.refusal.Refusal.{Refusal}
 use Rattle.netfile.specs.declared.fault.Fault.{Fault}
 use Rattle.netfile.specs.declared.record.Expectation.{Expectation}
 use Rattle.netfile.specs.declared.record.Expectation.TheVariants.{Start, Points, Tables, Pairs, Nothing}
+use Rattle.netfile.specs.declared.fault.Layer.TheVariants.{Network as NetworkLayer}
+use Rattle.netfile.specs.Faults.{fault_in}
 use Rattle.netfile.specs.Records.{Item, item_of, record_at}
-use Rattle.netfile.specs.Reading.{State, next_at, unless, objection, network_fault}
+use Rattle.netfile.specs.Reading.{State, next_at, unless, objection}
 use Rattle.netfile.specs.Drafts.{state_of, ended, unless_refused}
 use Rattle.netfile.proofs.reader.Reader.next.Goals as goal
 
@@ -28,9 +30,9 @@ passes (Some r) place x h = let z : ◌≡◌ {A = ℕ} 0 1 = cc in absurd (omeg
 -- a refusal is a fault of the network layer
 stops :
     (o : Option Refusal) (place : ℕ) (x : Item) (r : Result (Unit {0}) Refusal) (f : Fault) → r ≡ unless_refused o →
-    MatchResult r (λ _. ⊥) (λ e. f ≡ network_fault place e) → Err f ≡ unless place o x
-stops None place x r f e h = absurd (MatchResult-at_ok (λ _. ⊥) (λ e. f ≡ network_fault place e) tt e h)
-stops (Some q) place x r f e h = ap Err (MatchResult-at_err (λ _. ⊥) (λ e. f ≡ network_fault place e) q e h)
+    MatchResult r (λ _. ⊥) (λ e. f ≡ fault_in NetworkLayer place e) → Err f ≡ unless place o x
+stops None place x r f e h = absurd (MatchResult-at_ok (λ _. ⊥) (λ e. f ≡ fault_in NetworkLayer place e) tt e h)
+stops (Some q) place x r f e h = ap Err (MatchResult-at_err (λ _. ⊥) (λ e. f ≡ fault_in NetworkLayer place e) q e h)
 
 pub returns-in_err-map_err-clause-answer : goal.returns-in_err-map_err-clause-answer
 returns-in_err-map_err-clause-answer c =

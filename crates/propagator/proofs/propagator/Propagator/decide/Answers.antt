@@ -10,28 +10,29 @@ use Rattle.propagation.proofs.Outcomes.{is_err_outcome, on_no_err}
 use Rattle.propagator.specs.declared.propagator.decision.Decision.{Decision}
 use Rattle.propagator.specs.Decisions.{literals_in, heights_in}
 use Rattle.propagator.specs.Standing.{Standing}
+use Rattle.theory.specs.declared.Mark.TheVariants.{Open}
+use Rattle.propagator.specs.States.{state_of}
 use Rattle.propagator.proofs.Standings.{standing_decide}
 use Rattle.propagator.proofs.Deciding.{same_reached_decided, same_clash_decided}
-use Rattle.propagator.proofs.Invariant.{decided, heights, standing_of, same_many, holds_of, mark_of_lem, room}
+use Rattle.propagator.proofs.Invariant.{known, decided, heights, standing_of, same_many, holds_of, mark_of_lem, room}
 use Rattle.propagator.proofs.propagator.Propagator.decide.Goals as goal
 
 pub push_reserved-requires : goal.push_reserved-requires
-push_reserved-requires c =
-    let s = c.args.self.now in
-    omega (arith, room s c.requires.calm (c.args.literal / 2) (omega (arith, c.requires.within)) c.requires.fresh, s.roomy)
+push_reserved-requires c = omega (arith, room c.args.self.now (c.args.literal / 2) c.requires, c.args.self.now.roomy)
 
 pub push-requires-clause-fresh : goal.push-requires-clause-fresh
 push-requires-clause-fresh c =
     let s = c.args.self.now in
     let l = c.args.literal in
-    open_mark (literals_of s.trail) l (mark_of_lem s c.requires.calm (l / 2) ∙ c.requires.fresh)
+    let k = known (state_of s) (c.args.literal / 2) Open c.requires in
+    open_mark (literals_of s.trail) l (mark_of_lem s k.0 (l / 2) ∙ k.2)
 
 pub propagate-requires-clause-ready : goal.propagate-requires-clause-ready
 propagate-requires-clause-ready c = λ cl k.
     let s = c.args.self.now in
     let u = literals_of c.push.new.self in
     subst (λ x. Done u x cl) (sym c.len-height.ensures)
-    (done_pushed s.store.values (clauses_of s.store) (clauses_within s.store) (decided s) (literals_of s.trail) (holds_of s c.requires.calm) u c.args.literal c.push.ensures.literals cl k)
+    (done_pushed s.store.values (clauses_of s.store) (clauses_within s.store) (decided s) (literals_of s.trail) (holds_of s (known (state_of s) (c.args.literal / 2) Open c.requires).0) u c.args.literal c.push.ensures.literals cl k)
 
 pub invariant_of-self : goal.invariant_of-self
 invariant_of-self c =
@@ -47,10 +48,11 @@ invariant_of-self c =
     let r = c.propagate.result in
     let q = c.push.ensures.literals in
     let g = c.propagate.ensures.grew in
-    let x = holds_of s c.requires.calm in
+    let f = known (state_of s) (c.args.literal / 2) Open c.requires in
+    let x = holds_of s f.0 in
     let b = c.is_err-self.result in
     let e = c.is_err-self.ensures.value in
-    let k = standing_decide n cs t ds (heights s) s.clashed (standing_of s) (same_many s) u w g.more l b q g.is c.requires.within x
+    let k = standing_decide n cs t ds (heights s) s.clashed (standing_of s) (same_many s) u w g.more l b q g.is (omega (arith, f.1)) x
     (λ z m. on_no_err r c.propagate.ensures.exact (sym e ∙ z) m ∙ same_reached_decided n cs (clauses_within s.store) ds t u l x q m)
     (e ∙ is_err_outcome r _ c.propagate.ensures.answer ∙ same_clash_decided n cs (clauses_within s.store) ds t u l x q) in
     let d : Decision = record { literal = l; height = h } in

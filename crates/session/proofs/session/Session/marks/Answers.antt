@@ -1,23 +1,19 @@
-use Rattle.std.proofs.Common.{◌≡◌, ◌+◌, ◌-◌, take, drop, Ok, sym, ap, ◌∙◌, arith}
-use Rattle.theory.specs.Numbering.{offset, count}
-use Rattle.network.specs.Points.{entries, values_of}
-use Rattle.session.proofs.Finding.{point_calm, within_marks, marks_part}
+use Rattle.std.proofs.Common.{◌≡◌, Some, rules, arith}
+use Rattle.propagator.specs.States.{state_of, known_marks}
+use Rattle.session.proofs.Finding.{within_marks, marks_answered}
 use Rattle.session.proofs.session.Session.marks.Goals as goal
 
 pub slice_bounds-result-end : goal.slice_bounds-result-end
 slice_bounds-result-end c =
     let s = c.args.self.now in
-    let p = c.args.point in
-    let from = c.offset-first.ensures.value ∙ ap (λ ps. offset (values_of (entries ps)) p) c.deref.ensures.value in
-    let many = c.count-count.ensures.value ∙ ap (λ ps. count (values_of (entries ps)) p) c.deref-2.ensures.value in
-    within_marks s p _ _ from many c.marks.result.now c.marks.ensures
+    let ms = c.in_ok-marks.marks.now in
+    let e : known_marks (state_of s.inner) ≡ Some ms = search rules in
+    within_marks s c.args.point _ _ _ _ ms c.deref.ensures.value c.deref-2.ensures.value c.offset-first.ensures.value c.count-count.ensures.value e
 
 pub returns : goal.returns
 returns c =
     let s = c.args.self.now in
-    let p = c.args.point in
-    let from = c.offset-first.ensures.value ∙ ap (λ ps. offset (values_of (entries ps)) p) c.deref.ensures.value in
-    let many = c.count-count.ensures.value ∙ ap (λ ps. count (values_of (entries ps)) p) c.deref-2.ensures.value in
-    let n : c.offset-first.result + c.count-count.result - c.offset-first.result ≡ c.count-count.result = omega arith in
-    sym (point_calm s p _ (omega (arith, c.len.ensures, c.if-point-len.false)) c.if-has_clash.ensures) ∙
-    ap Ok (sym (marks_part s p _ _ from many c.marks.result.now c.marks.ensures) ∙ sym (ap (λ k. take k (drop c.offset-first.result c.marks.result.now)) n))
+    let ms = c.in_ok-marks.marks.now in
+    let e : known_marks (state_of s.inner) ≡ Some ms = search rules in
+    marks_answered s c.args.point _ _ _ _ ms c.deref.ensures.value c.deref-2.ensures.value c.offset-first.ensures.value c.count-count.ensures.value e
+    (omega (arith, c.len.ensures, c.if-point-len.false))

@@ -1,0 +1,6 @@
+// Literals as a type.
+#![tactic(auto)]
+
+mod literal;
+
+pub use literal::Literal;
