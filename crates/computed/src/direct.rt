@@ -26,7 +26,7 @@ impl<'a> TableClauses<'a> {
         End::new(self.points, self.table, Side::Lower)
     }
 
-    // The count and the search of values that are barred stay beside those of partners in `End`: they look for the contrary.
+    // The search of values that are barred stays beside that of partners in `End`: it looks for the contrary.
     // How many values of the higher point the table does not allow beside the lower point's value i.
     fn barred_count(&self, i: usize) -> usize
         ensures value { result ≡ length (barred_with (counts_of self.now.points.now) (table_of self.now.table.now) i) }

@@ -17,7 +17,7 @@ impl<'a> TableClauses<'a> {
         ensures value { result ≡ size_of encoding (counts_of self.now.points.now) (table_of self.now.table.now) }
         ensures bound { result ≤ most_values * most_values }
     {
-        // a match: the encodings are an enum, and each case is one call
+        // a match: the encodings are an enum, and these are all there are
         match encoding {
             Encoding::Direct => self.direct_count(),
             Encoding::Support => {
@@ -34,7 +34,7 @@ pub(crate) fn sizes(network: &Network, encoding: Encoding) -> [u16; MAX_TABLES]
 {
     let points = network.points();
     let mut sizes = [0u16; MAX_TABLES];
-    // by place: after a loop over `iter_mut` and an adapter a proof knows how many items there are, and not which
+    // by place: tried as `array::from_fn`, with the size of each table by a closure, and what is promised (`returns`) had no proof
     for (k, table) in network.tables().iter().enumerate() {
         sizes[k] = TableClauses { points, table }.size(encoding) as u16;
     }

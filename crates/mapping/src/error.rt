@@ -27,7 +27,7 @@ impl MapError {
         // a match and no discriminants: a variant holds a value
         match self {
             MapError::Refused(fault) => fault.refusal.number(),
-            MapError::TooShort => 21,
+            MapError::TooShort => PageRefusal::TooShort.number(),
             MapError::OutOfMemory => 99,
         }
     }

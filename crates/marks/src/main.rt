@@ -3,10 +3,11 @@
 
 use anyhow::Result;
 use mapping::MapError;
+use network::{LABEL_BYTES, MAX_POINTS, MAX_VALUES};
 use std::io::{Read, Write};
 
 // The most bytes that a page can have: 48 lines of a label, a space, 16 signs and a line feed.
-const MOST_BYTES: usize = 48 * (8 + 1 + 16 + 1);
+const MOST_BYTES: usize = MAX_POINTS * (LABEL_BYTES + 1 + MAX_VALUES + 1);
 
 fn run(rt: &HostRuntime) -> Result<()> {
     let mut file = Vec::new(rt.alloc());

@@ -21,9 +21,7 @@ pub(crate) fn label(body: &[u8]) -> [u8; LABEL_BYTES]
     requires { length body.now ≡ 9 }
     ensures { result ≡ drop 1 body.now }
 {
-    let mut label = [0; LABEL_BYTES];
-    label.copy_from_slice(&body[1..9]);
-    label
+    body[1..].try_into().unwrap()
 }
 
 // A point: 1 to 16 values, and a label of printable bytes.

@@ -67,7 +67,10 @@ impl Draft {
         ensures { table_of result ≡ last_table (state_of self.now) }
     {
         // a table with no pair stands for a missing one, as the definition has it: no file comes to it, and an `Option` would need an arm that says so
-        self.tables.last().copied().unwrap_or(Table::new(0, 0))
+        self.tables
+            .last()
+            .copied()
+            .unwrap_or_else(|| Table::new(0, 0))
     }
 
     // Refuses a pair of the last table with which something is wrong.

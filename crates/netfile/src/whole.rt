@@ -23,7 +23,7 @@ impl<'a> Whole<'a> {
         ensures { (place : ℕ) → map_ok item_of (at_place place result) ≡ checked place self.now.kind self.now.body.now }
     {
         let body = self.body;
-        // a match: the kinds are an enum, and each case is one call
+        // a match: the kinds are an enum, and these are all there are
         match self.kind {
             Kind::Head => checks::head(body[0], body[1] as usize, body[2] as usize),
             Kind::Point => checks::point(body[0], checks::label(body)),

@@ -15,7 +15,7 @@ pub(crate) fn lines_length(session: &Session) -> usize
     ensures { result ≡ length (lines_text (state_of session.now)) }
 {
     let mut sum = 0;
-    // a `for`: of a chain's sum either the bound or the value had no proof, since only of a label at hand is it known how long it is
+    // a `for`: a chain was tried, and of its sum either the bound or the value had no proof, since only of a label at hand is it known how long it is
     for point in session.points() {
         sum += point.label().len() + 1 + point.values() as usize + 1;
     }

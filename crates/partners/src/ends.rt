@@ -6,6 +6,7 @@ ghost use Rattle.network.specs.Points.{counts_of};
 ghost use Rattle.network.specs.Tables.{table_of};
 ghost use Rattle.partners.specs.Ends.{partners_of, support_of};
 
+use crate::sides;
 use literals::Literal;
 use network::{PointList, Table};
 use theory::Side;
@@ -32,27 +33,18 @@ impl<'a> End<'a> {
         }
     }
 
-    // `near` and `far` stay two: a shared function would be the same match, with one parameter more.
     // The near point.
     pub fn near(&self) -> usize
         ensures { result ≡ near self.now.side (table_of self.now.table.now) }
     {
-        // a match: there are just these two sides
-        match self.side {
-            Side::Lower => self.table.low(),
-            Side::Higher => self.table.high(),
-        }
+        sides::near(self.table, self.side)
     }
 
     // The far point.
     pub fn far(&self) -> usize
         ensures { result ≡ far self.now.side (table_of self.now.table.now) }
     {
-        // a match: there are just these two sides
-        match self.side {
-            Side::Lower => self.table.high(),
-            Side::Higher => self.table.low(),
-        }
+        sides::far(self.table, self.side)
     }
 
     // How many values the near point has.
@@ -67,13 +59,10 @@ impl<'a> End<'a> {
     pub fn is_partner(&self, i: usize, j: usize) -> bool
         ensures { result ≡ partner self.now.side (table_of self.now.table.now) i j }
     {
-        // a match: there are just these two sides
-        match self.side {
-            Side::Lower => self.table.allows(i, j),
-            Side::Higher => self.table.allows(j, i),
-        }
+        sides::is_partner(self.table, self.side, i, j)
     }
 
+    // `partners` and `partner` write one chain twice: a function that hands a chain out may not be written.
     // How many partners the value i has.
     pub fn partners(&self, i: usize) -> usize
         ensures value { result + 1 ≡ length (support_of self.now i) }

@@ -2,5 +2,6 @@
 #![tactic(auto)]
 
 mod ends;
+pub mod sides;
 
 pub use ends::End;

@@ -45,6 +45,7 @@ pub fn play_all<B: ClauseBook>(
     ensures calls { IfOk result (λ v. map call_of v.items ≡ calls.now) }
     ensures promise { IfOk result (λ v. Promise (points_of points.now) (B.clauses book.now) v.items) }
 {
+    // reserved before the session is opened, and filled by a `for`, so that no call is made whose answer could not be kept
     let mut log = Vec::with_capacity(heap, calls.len())?;
     let mut session = Session::new(heap);
     session.open(heap, points, book)?;

@@ -47,7 +47,7 @@ fn bare(word: &[u8]) -> Option<Command>
     }
 }
 
-// `clauses` and `number` are taken apart here too: the word before the first space decides, for every command in one way.
+// `clauses` and `number` are taken apart here too: falling back on the parser of `commands` would take each line apart a second time.
 // The clauses of the encoding of a name.
 fn clauses(name: &[u8]) -> Option<Command>
     ensures { result ≡ clauses_of name.now }

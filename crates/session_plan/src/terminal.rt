@@ -82,7 +82,7 @@ impl<'a> Caller for Terminal<'a> {
     ghost left = { λ t. t.left };
 
     fn next(&mut self, session: &Session) -> Option<Call> {
-        // no `for`: a line that is answered here gives no call, and the next is read
+        // no `for`: it would hold the lines, while `hear` is asked of the whole terminal
         while self.left > 0 && self.failed.is_none() {
             self.left -= 1;
             let line = self.lines.next()?;

@@ -24,7 +24,7 @@ impl Propagator {
         ensures state { state_of self.new ≡ without_last (state_of self.old) }
         ensures kept { result ≡ false → self.new ≡ self.old }
     {
-        // tested before: `Vec::pop` does not say that an empty vector stays as it was
+        // a bool, since nothing else is asked of it; tested before, since `Vec::pop` does not say that an empty vector stays the same, as `kept` does
         if self.decisions.is_empty() {
             return false;
         }
