@@ -13,7 +13,7 @@ module _ (ws : List ℕ) where
   pub clause_at : (i : ℕ) → i < count_of ws → get_or (clauses_of ws) i [] ≡ clause_of ws i
   clause_at i h = get_or-map-range_with_len (clause_of ws) 0 (count_of ws) i i [] h (omega arith)
 
-  clause_past : (i : ℕ) → count_of ws ≤ i → get_or (clauses_of ws) i [] ≡ []
+  pub clause_past : (i : ℕ) → count_of ws ≤ i → get_or (clauses_of ws) i [] ≡ []
   clause_past i h = get_or_past (clauses_of ws) i [] (omega (arith, many))
 
 -- words that are a stored book
@@ -24,7 +24,7 @@ module _ (ws : List ℕ) (s : IsStored ws) where
       omega (arith, length-take (end_of ws i - start_of ws i) (drop (start_of ws i) ws), length-drop (start_of ws i) ws, s.inside i h)
 
   -- a clause that has a literal is one of those that are counted
-  counted : (i j : ℕ) → j < length (get_or (clauses_of ws) i []) → i < count_of ws
+  pub counted : (i j : ℕ) → j < length (get_or (clauses_of ws) i []) → i < count_of ws
   counted i j h = ⊎_elim (λ l. l) (λ (l : count_of ws ≤ i). absurd (omega (arith, ap length (clause_past ws i l)))) (cases_lt i (count_of ws))
 
   pub literal_at : (i j : ℕ) → j < length (get_or (clauses_of ws) i []) → get_or ws (start_of ws i + j) 0 ≡ get_or (get_or (clauses_of ws) i []) j 0

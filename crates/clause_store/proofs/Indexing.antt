@@ -1,12 +1,11 @@
 -- The index, one clause after another and one literal after another.
-use Rattle.std.proofs.Common.{◌≡◌, ℕ, zero, suc, ◌+◌, ◌<◌, Bool, true, false, ◌||◌, ◌&&◌, eqb, List, [], ◌∷◌, ◌++◌, length, get_or, set, take, Vec, vec_items, sym, refl, ap, ◌∙◌, ⊎_elim, arith}
-use Rattle.std.specs.declared.alloc.Global.{Global}
-use Rattle.std.specs.List.{FoldsTo}
+use Rattle.std.proofs.Common.{◌≡◌, ℕ, zero, suc, ◌+◌, ◌<◌, Bool, true, false, cond, ◌||◌, ◌&&◌, eqb, List, [], ◌∷◌, ◌++◌, map, length, get_or, set, take, filter, sym, refl, ap, ◌∙◌, ⊎_elim}
 use Rattle.std.proofs.Math.Bool.{or-false}
 use Rattle.std.proofs.lemmas.Bool.{cases_eq, eq-eqb, ne_eqb}
-use Rattle.std.proofs.lemmas.List.{take_more, get_or_past, get_or-set_same, get_or-set_other}
+use Rattle.std.proofs.lemmas.List.Elements.{filter-append}
+use Rattle.std.proofs.lemmas.List.{append_assoc, append-nil, map-append, take_more, get_or-set_same, get_or-set_other}
 use Rattle.theory.specs.Lists.{has}
-use Rattle.books.specs.Lists.{lists_of}
+use Rattle.clause_store.specs.Index.{named}
 
 or_assoc : (a b c : Bool) → (a || (b || c)) ≡ ((a || b) || c)
 or_assoc true b c = refl
@@ -55,10 +54,43 @@ held_more hs olds c k i m j lt in_hs was = ⊎_elim same other (cases_eq m x)
         ap (λ ys. has ys j) (get_or-set_other hs x m (get_or hs x [] ++ i ∷ []) [] ne) ∙ was ∙ unseen old (has (take k c) m) (eqb j i) ∙
         ap (λ b. old || ((has (take k c) m || b) && eqb j i)) (sym (ne_eqb m x ne)) ∙ ap (λ b. old || (b && eqb j i)) (sym more)
 
--- vectors that were made empty hold nothing at any place
-pub made_bare :
-    {F : Type 0} (step : F → Vec ℕ Global → F → Type 0) → ((p : F) (v : Vec ℕ Global) (q : F) → step p v q → vec_items v ≡ []) →
-    (vs : List (Vec ℕ Global)) (f last : F) → FoldsTo step f vs last → (l : ℕ) → get_or (lists_of vs) l [] ≡ []
-made_bare step bare [] f last h l = get_or_past {X = List ℕ} [] l [] (omega arith)
-made_bare step bare (v ∷ vs) f last h zero = bare f v h.0 h.1
-made_bare step bare (v ∷ vs) f last h (suc l) = made_bare step bare vs h.0 last h.2 l
+-- one literal more, named once more
+named_push : (c : List ℕ) (x l i : ℕ) → named (c ++ x ∷ []) l i ≡ named c l i ++ named (x ∷ []) l i
+named_push c x l i = ap (map (λ _. i)) (filter-append (λ m. eqb m l) c (x ∷ [])) ∙ map-append (λ _. i) (filter (λ m. eqb m l) c) (filter (λ m. eqb m l) (x ∷ []))
+
+named_one : (x l i : ℕ) (b : Bool) → b ≡ eqb x l → named (x ∷ []) l i ≡ map (λ _. i) (cond b (x ∷ []) [])
+named_one x l i b e = ap (λ t. map (λ _. i) (cond t (x ∷ []) [])) (sym e)
+
+-- one literal more of clause i, behind those before it
+pub named_more :
+    (hs olds : List (List ℕ)) (c : List ℕ) (k i m : ℕ) → k < length c → get_or c k 0 < length hs →
+    get_or hs m [] ≡ get_or olds m [] ++ named (take k c) m i →
+    get_or (set hs (get_or c k 0) (get_or hs (get_or c k 0) [] ++ i ∷ [])) m [] ≡ get_or olds m [] ++ named (take (k + 1) c) m i
+named_more hs olds c k i m lt in_hs was = ⊎_elim same other (cases_eq m x)
+  where
+    x : ℕ
+    x = get_or c k 0
+
+    old : List ℕ
+    old = get_or olds m []
+
+    more : (b : Bool) → b ≡ eqb x m → named (take (k + 1) c) m i ≡ named (take k c) m i ++ map (λ _. i) (cond b (x ∷ []) [])
+    more b e = ap (λ ys. named ys m i) (take_more c k 0 lt) ∙ named_push (take k c) x m i ∙ ap (λ ys. named (take k c) m i ++ ys) (named_one x m i b e)
+
+    same : m ≡ x → get_or (set hs x (get_or hs x [] ++ i ∷ [])) m [] ≡ old ++ named (take (k + 1) c) m i
+    same e =
+        ap (λ n. get_or (set hs x (get_or hs x [] ++ i ∷ [])) n []) e ∙ get_or-set_same hs x (get_or hs x [] ++ i ∷ []) [] in_hs ∙
+        ap (λ n. get_or hs n [] ++ i ∷ []) (sym e) ∙ ap (λ ys. ys ++ i ∷ []) was ∙ append_assoc old (named (take k c) m i) (i ∷ []) ∙
+        ap (λ ys. old ++ ys) (sym (more true (sym (eq-eqb x m (sym e)))))
+
+    other : (m ≡ x → ⊥) → get_or (set hs x (get_or hs x [] ++ i ∷ [])) m [] ≡ old ++ named (take (k + 1) c) m i
+    other ne =
+        get_or-set_other hs x m (get_or hs x [] ++ i ∷ []) [] ne ∙ was ∙
+        ap (λ ys. old ++ ys) (sym (append-nil (named (take k c) m i)) ∙ sym (more false (sym (ne_eqb x m (λ e. ne (sym e))))))
+
+-- one vector more that holds nothing
+pub bare_more : (vs : List (List ℕ)) (v : List ℕ) → ((l : ℕ) → get_or vs l [] ≡ []) → v ≡ [] → (l : ℕ) → get_or (vs ++ v ∷ []) l [] ≡ []
+bare_more [] v bare e zero = e
+bare_more [] v bare e (suc l) = bare l
+bare_more (w ∷ ws) v bare e zero = bare 0
+bare_more (w ∷ ws) v bare e (suc l) = bare_more ws v (λ k. bare (suc k)) e l

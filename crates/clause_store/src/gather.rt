@@ -35,7 +35,8 @@ fn read_clause<B: ClauseBook>(
     if size == 0 || size > MAX_LITERALS {
         return Err(OpenError::Unfit);
     }
-    let mut clause = Vec::new(heap);
+    // its room is taken once: a vector that grows is moved again and again, and so is the next
+    let mut clause = Vec::with_capacity(heap, size)?;
     // a `for`: a clause that is not fit is refused before more of it is in memory
     for j in 0..size {
         let literal = Literal::from(book.literal(i, j));
@@ -43,7 +44,7 @@ fn read_clause<B: ClauseBook>(
         if value >= values as usize || names_value(&clause, value) {
             return Err(OpenError::Unfit);
         }
-        clause.push(literal)?;
+        clause.push_reserved(literal);
     }
     Ok(clause)
 }

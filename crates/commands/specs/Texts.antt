@@ -7,6 +7,10 @@ abbrev pub place_text : Option (ℕ × ℕ) → List ℕ
 place_text None = codes "none"
 place_text (Some x) = decimal x.0 ++ (codes " " ++ decimal x.1)
 
+-- a refusal's number and place
+abbrev pub refused_text : ℕ → ℕ → List ℕ
+refused_text n p = codes "refused " ++ (decimal n ++ (codes " at " ++ decimal p))
+
 -- each literal after a space
 abbrev pub spaced : List ℕ → List ℕ
 spaced ls = flat_map (λ l. codes " " ++ decimal l) ls

@@ -1,6 +1,6 @@
-ghost use Rattle.std.specs.Prelude.{◌≡◌, slice_get};
+ghost use Rattle.std.specs.Prelude.{◌≡◌, length, slice_get};
 ghost use Rattle.std.specs.Option.{option_map};
-ghost use Rattle.theory.specs.Encodings.{clauses};
+ghost use Rattle.theory.specs.Encodings.{at_most_one, clauses};
 ghost use Rattle.network.specs.Contents.{meaning};
 ghost use Rattle.computed.specs.Ids.{clause_of};
 ghost use Rattle.computed.specs.Sizes.{Sized};
@@ -18,7 +18,10 @@ pub struct ComputedBook<'a> {
     pub(crate) encoding: Encoding,
     // how many clauses each table has; an array, since a book is made with no memory from the heap and cannot fail
     pub(crate) sizes: [u16; MAX_TABLES],
+    // how many at-most-one clauses the points have: kept, since each literal that is asked for is looked for behind them
+    pub(crate) pairs: u16,
     ghost sized: { Sized encoding (meaning network.now) sizes },
+    ghost paired: { pairs ≡ length (at_most_one (meaning network.now).counts) },
 }
 
 impl<'a> ComputedBook<'a> {
@@ -28,10 +31,12 @@ impl<'a> ComputedBook<'a> {
         ensures encoding { result.encoding ≡ encoding }
     {
         let sizes = sizes::sizes(network, encoding);
+        let pairs = point_pairs::at_most_one_count(network.points()) as u16;
         ComputedBook {
             network,
             encoding,
             sizes,
+            pairs,
         }
     }
 
@@ -44,7 +49,7 @@ impl<'a> ComputedBook<'a> {
         if i < some {
             return Some(ClauseId::SomeOf { points, point: i });
         }
-        let pairs = point_pairs::at_most_one_count(points);
+        let pairs = self.pairs as usize;
         if i - some < pairs {
             return point_pairs::at_most_one(points, i - some);
         }
@@ -56,8 +61,7 @@ impl<'a> ClauseBook for ComputedBook<'a> {
     ghost clauses = { λ b. clauses b.encoding (meaning b.network.now) };
 
     fn count(&self) -> usize {
-        let points = self.network.points();
-        points.len() + point_pairs::at_most_one_count(points) + self.table_clause_count()
+        self.network.points().len() + self.pairs as usize + self.table_clause_count()
     }
 
     fn length(&self, i: usize) -> usize {

@@ -91,8 +91,8 @@ impl Literal {
     {
         match mark {
             Mark::Open => None,
-            Mark::In => Some(self.0 % 2 == 0),
-            Mark::Out => Some(self.0 % 2 == 1),
+            // two truths compared, and no test on the mark: of a clause at hand each such guess is as often wrong as right
+            Mark::In | Mark::Out => Some((mark == Mark::In) == (self.0 % 2 == 0)),
         }
     }
 }

@@ -62,15 +62,15 @@ impl<'a> End<'a> {
         sides::is_partner(self.table, self.side, i, j)
     }
 
-    // `partners` and `partner` write one chain twice: a function that hands a chain out may not be written.
     // How many partners the value i has.
     pub fn partners(&self, i: usize) -> usize
         ensures value { result + 1 ≡ length (support_of self.now i) }
         ensures bound { result ≤ most_values }
     {
+        // a sum of truths, and no count behind a filter: a filter's test on each value costs a wrong guess at every other one
         (0..self.points.count(self.far()))
-            .filter(|value| self.is_partner(i, *value))
-            .count()
+            .map(|value| usize::from(self.is_partner(i, value)))
+            .sum()
     }
 
     // How many literals the support clause of the value i has.

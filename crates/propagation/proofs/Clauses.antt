@@ -16,10 +16,10 @@ module _ (t xs : List ℕ) (x : ℕ) where
   only_false None h k = λ m i. ⊎_elim (k m) (λ e. subst (λ y. opposite y ∈ t) (sym e) h) (in_last m i)
   only_false (Some f) h k = (in_left xs (x ∷ []) f k.0, k.1, λ m i ne. ⊎_elim (λ j. k.2 m j ne) (λ e. subst (λ y. opposite y ∈ t) (sym e) h) (in_last m i))
 
-  only_first : truth_of t x ≡ None → Only t xs None → Only t (xs ++ x ∷ []) (Some x)
+  pub only_first : truth_of t x ≡ None → Only t xs None → Only t (xs ++ x ∷ []) (Some x)
   only_first h k = (in_right xs (x ∷ []) x (inl refl), h, λ m i ne. ⊎_elim (k m) (λ e. absurd (ne e)) (in_last m i))
 
-  only_same : (f : ℕ) → f ≡ x → Only t xs (Some f) → Only t (xs ++ x ∷ []) (Some f)
+  pub only_same : (f : ℕ) → f ≡ x → Only t xs (Some f) → Only t (xs ++ x ∷ []) (Some f)
   only_same f e k = (in_left xs (x ∷ []) f k.0, k.1, λ m i ne. ⊎_elim (λ j. k.2 m j ne) (λ q. absurd (ne (q ∙ sym e))) (in_last m i))
 
   -- of the literal x, and of no other before it, t says nothing

@@ -39,7 +39,7 @@ module _ (s : Session) where
   many_points = length-map (vec_items s.points) entry_of ∙ sym s.points.ok.0
 
   -- where a point is there and no clash, the answer is given
-  point_calm : {A : Type 0} (p : ℕ) (r : Result A CallRefusal) → p < vec_len s.points → has_clash (inner_of s.inner) ≡ false → r ≡ checked (has_point (state_of s) p) (is_clashed (state_of s)) r
+  pub point_calm : {A : Type 0} (p : ℕ) (r : Result A CallRefusal) → p < vec_len s.points → has_clash (inner_of s.inner) ≡ false → r ≡ checked (has_point (state_of s) p) (is_clashed (state_of s)) r
   point_calm p r h c =
       let e = lt-ltb p (length (state_of s).points) (omega (arith, many_points)) in
       let d = sym c ∙ sym clash_same in

@@ -3,3 +3,4 @@
 
 pub mod answers;
 pub mod command;
+pub mod text;

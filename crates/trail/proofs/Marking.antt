@@ -59,7 +59,7 @@ module _ (cap : ℕ) (t : List ℕ) (ms : List Mark) (k : Marked cap t ms) where
   pub told_in : (l : ℕ) → l ∈ t → code (get_or ms (l / 2) Open) ≡ 1 + l % 2
   told_in l h = let r = at_in t l h in subst (λ x. code (get_or ms (x / 2) Open) ≡ 1 + x % 2) r.2 (k.told r.0 r.1)
 
-  below_in : (l : ℕ) → l ∈ t → l < 2 * length ms
+  pub below_in : (l : ℕ) → l ∈ t → l < 2 * length ms
   below_in l h = let r = at_in t l h in subst (λ x. x < 2 * length ms) r.2 (k.below r.0 r.1)
 
   told_opposite : (l : ℕ) → opposite l ∈ t → code (get_or ms (l / 2) Open) ≡ 1 + opposite l % 2
@@ -69,16 +69,16 @@ module _ (cap : ℕ) (t : List ℕ) (ms : List Mark) (k : Marked cap t ms) where
   pub consistent : (l : ℕ) → l ∈ t → opposite l ∈ t → ⊥
   consistent l h g = omega (arith, told_in l h, told_opposite l g)
 
-  truth_open : (l : ℕ) → code (get_or ms (l / 2) Open) ≡ 0 → truth_of t l ≡ None
+  pub truth_open : (l : ℕ) → code (get_or ms (l / 2) Open) ≡ 0 → truth_of t l ≡ None
   truth_open l e = open_when t l (λ h. omega (arith, told_in l h)) (λ h. omega (arith, told_opposite l h))
 
-  truth_true : (l : ℕ) → code (get_or ms (l / 2) Open) ≡ 1 + l % 2 → truth_of t l ≡ Some true
+  pub truth_true : (l : ℕ) → code (get_or ms (l / 2) Open) ≡ 1 + l % 2 → truth_of t l ≡ Some true
   truth_true l e = true_when t l (in_from_has t l (k.heard l e))
 
   heard_opposite : (l : ℕ) → code (get_or ms (l / 2) Open) ≡ 1 + opposite l % 2 → opposite l ∈ t
   heard_opposite l e = in_from_has t (opposite l) (k.heard (opposite l) (subst (λ v. code (get_or ms v Open) ≡ 1 + opposite l % 2) (sym (opposite_half l)) e))
 
-  truth_false : (l : ℕ) → code (get_or ms (l / 2) Open) ≡ 1 + opposite l % 2 → truth_of t l ≡ Some false
+  pub truth_false : (l : ℕ) → code (get_or ms (l / 2) Open) ≡ 1 + opposite l % 2 → truth_of t l ≡ Some false
   truth_false l e = false_when t l (λ h. omega (arith, told_in l h)) (heard_opposite l e)
 
   -- what a mark says of a literal of its value

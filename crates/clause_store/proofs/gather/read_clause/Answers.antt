@@ -12,7 +12,9 @@ loop-j-preserved g c =
     let v = c.deref.ensures.value ∙ c.loop-j.invariant.read in
     let l = c.from-literal.ensures ∙ c.literal.ensures in
     record {
-      read = c.in_ok-push.ensures.items ∙ ap (λ x. x ++ c.from-literal.result ∷ []) c.loop-j.invariant.read ∙ ap (λ y. take j cl ++ y ∷ []) l ∙ sym (take_more cl j 0 lt);
+      read = c.push_reserved.ensures.items ∙ ap (λ x. x ++ c.from-literal.result ∷ []) c.loop-j.invariant.read ∙ ap (λ y. take j cl ++ y ∷ []) l ∙ sym (take_more cl j 0 lt);
+      long = omega arith;
+      roomy = omega arith;
       below = below_more (λ k. get_or cl k 0 < 2 * c.args.values) j c.loop-j.invariant.below (omega (arith, l, c.value-value.ensures, c.if-value-values.false));
       apart = apart_more j cl lt c.loop-j.invariant.apart (λ n. c.if-names_value.ensures (subst₂ NamesValue (sym v) (ap (λ x. x / 2) (sym l) ∙ sym c.value-value.ensures) n));
     }

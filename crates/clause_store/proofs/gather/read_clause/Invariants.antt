@@ -1,4 +1,4 @@
-use Rattle.std.proofs.Common.{◌≡◌, ℕ, ◌*◌, ◌/◌, ◌<◌, [], get_or, take, vec_items}
+use Rattle.std.proofs.Common.{◌≡◌, ℕ, ◌*◌, ◌/◌, ◌<◌, ◌≤◌, [], get_or, take, vec_items, vec_len, vec_capacity}
 use Rattle.clause_store.proofs.gather.read_clause.Given as goal
 
 abbrev pub invariant-loop-j : goal.invariant-loop-j
@@ -6,6 +6,8 @@ invariant-loop-j g l =
     let c = get_or (g.B.ClauseBook.clauses l.book) l.i [] in
     record {
       read : vec_items l.clause ≡ take l.j c;
+      long : vec_len l.clause ≡ l.j;
+      roomy : l.size ≤ vec_capacity l.clause;
       below : (k : ℕ) → k < l.j → get_or c k 0 < 2 * l.values;
       apart : (i k : ℕ) → i < k → k < l.j → get_or c i 0 / 2 ≡ get_or c k 0 / 2 → ⊥;
     }

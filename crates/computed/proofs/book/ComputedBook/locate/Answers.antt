@@ -30,10 +30,9 @@ returns-then-i-some-2 c =
     let n = c.len-some.result in
     let long : length (at_least_one ks) ≡ n =
     length-map-range_with_len (some_clause ks) 0 (length ks) ∙ sym (c.len-some.ensures ∙ ap (λ ps. length (counts_of ps)) c.points-points.ensures) in
-    let many = ap (λ ps. length (at_most_one (counts_of ps))) c.points-points.ensures in
     c.at_most_one.ensures ∙
     ap (λ ps. slice_get (at_most_one (counts_of ps)) (i - n)) c.points-points.ensures ∙
-    sym (in_second (at_least_one ks) (at_most_one ks) (flat_map (table_clauses b.encoding ks) net.tables) i n long (omega arith) (omega arith))
+    sym (in_second (at_least_one ks) (at_most_one ks) (flat_map (table_clauses b.encoding ks) net.tables) i n long (omega arith) (omega (arith, b.paired)))
 
 pub returns : goal.returns
 returns c =
@@ -44,8 +43,7 @@ returns c =
     let n = c.len-some.result in
     let long : length (at_least_one ks) ≡ n =
     length-map-range_with_len (some_clause ks) 0 (length ks) ∙ sym (c.len-some.ensures ∙ ap (λ ps. length (counts_of ps)) c.points-points.ensures) in
-    let m = c.at_most_one_count-pairs.result in
-    let many : length (at_most_one ks) ≡ m =
-    sym (c.at_most_one_count-pairs.ensures.value ∙ ap (λ ps. length (at_most_one (counts_of ps))) c.points-points.ensures) in
+    let m = b.pairs in
+    let many : length (at_most_one ks) ≡ m = sym b.paired in
     c.table_clause.ensures ∙
     sym (in_third (at_least_one ks) (at_most_one ks) (flat_map (table_clauses b.encoding ks) net.tables) i n long m many (omega arith) (omega arith))

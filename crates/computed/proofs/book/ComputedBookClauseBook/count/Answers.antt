@@ -13,6 +13,5 @@ returns c =
     let net = meaning b.network.now in
     let ks = net.counts in
     let f = table_clauses b.encoding ks in
-    let some = ap (λ ps. length (counts_of ps)) c.points-points.ensures in
-    let pairs = ap (λ ps. length (at_most_one (counts_of ps))) c.points-points.ensures in
-    omega (arith, three_lengths (at_least_one ks) (at_most_one ks) (flat_map f net.tables), length-map-range_with_len (some_clause ks) 0 (length ks))
+    let some = ap (λ ps. length (counts_of ps)) c.points.ensures in
+    omega (arith, b.paired, three_lengths (at_least_one ks) (at_most_one ks) (flat_map f net.tables), length-map-range_with_len (some_clause ks) 0 (length ks))

@@ -1,0 +1,5 @@
+use Rattle.encodings.proofs.Growing.{count_up, joined_grown}
+use Rattle.encodings.proofs.exactly_one.not_two.Goals as goal
+
+pub loop-i-preserved : goal.loop-i-preserved
+loop-i-preserved c = joined_grown _ _ _ (count_up c.loop-i.i) _ _ _ _ c.loop-i.invariant c.in_ok-not_with_later.ensures
