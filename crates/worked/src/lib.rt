@@ -8,15 +8,16 @@ pub use examples::berm_file;
 #[cfg(test)]
 mod tests {
     use super::berm_file;
-    use books::{StoredBook, WordsRefusal};
+    use books::{HalfScores, StoredBook, WordsRefusal};
     use calls::{Call, CallRefusal, Decided, Exchange};
     use clause_store::OpenError;
     use commands::text;
     use computed::ComputedBook;
     use netfile::ReadError;
     use network::Network;
+    use session_commands::text as session_text;
     use std::test::*;
-    use theory::Encoding;
+    use theory::{Encoding, Side};
 
     // The points of the worked file.
     const POINTS: [u8; 24] = [
@@ -173,6 +174,39 @@ mod tests {
             text::clauses(rt.alloc(), &lists.as_slice())?,
             text::clauses(rt.alloc(), &book)?
         );
+        Ok(())
+    }
+
+    #[test]
+    fn the_parts_of_a_list_make_the_list(rt: HostRuntime) -> Result<(), Fail> {
+        let heap = rt.alloc();
+        let network = worked(&rt)?;
+        let all = encodings::encode(heap, &network, Encoding::Support)?;
+        let mut lists = encodings::of_points(heap, network.points())?;
+        for table in network.tables() {
+            encodings::of_table(heap, network.points(), table, Encoding::Support, &mut lists)?;
+        }
+        assert_eq!(rt;
+            text::clauses(heap, &lists.as_slice())?,
+            text::clauses(heap, &all.as_slice())?
+        );
+        Ok(())
+    }
+
+    #[test]
+    fn texts_of_any_number(rt: HostRuntime) -> Result<(), Fail> {
+        let heap = rt.alloc();
+        let scores = HalfScores {
+            better: Side::Lower,
+            lower: 24,
+            higher: 8,
+        };
+        assert_eq!(rt; text::refused(heap, 255, 18)?.as_str(), "refused 255 at 18");
+        assert_eq!(rt;
+            session_text::refused_call(heap, 255)?.as_str(),
+            "refused 255"
+        );
+        assert_eq!(rt; session_text::half(heap, scores)?.as_str(), "lower 24 8");
         Ok(())
     }
 
