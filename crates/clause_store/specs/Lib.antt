@@ -1,4 +1,6 @@
 pub mod Fitness
 pub mod Refusals
+pub mod Parts
+pub mod Storage
 pub mod Index
 pub mod Contents

@@ -1,9 +1,10 @@
-ghost use Rattle.std.specs.Prelude.{◌≡◌, [], IfOk, MatchBool, slice_index_or};
+ghost use Rattle.std.specs.Prelude.{◌≡◌, [], ◌++◌, IfOk, MatchBool, OnOk, slice_index_or};
+ghost use Rattle.clause_store.specs.Storage.{flat_of};
 ghost use Rattle.clause_store.specs.Fitness.{NamesValue, FitClause};
 ghost use Rattle.clause_store.specs.Refusals.{HoldsExactly, FitsExactly};
-ghost use Rattle.books.specs.Lists.{lists_of};
 
 use crate::error::OpenError;
+use crate::flat::FlatClauses;
 use books::ClauseBook;
 use literals::Literal;
 use std::alloc::Global;
@@ -21,32 +22,31 @@ fn names_value(literals: &[Literal], value: usize) -> bool
     literals.iter().any(|literal| literal.value() == value)
 }
 
-// Clause i, where it is fit.
+// Adds the literals of clause i to a row, where the clause is fit: where it is not, some of them may stand there.
 fn read_clause<B: ClauseBook>(
-    heap: Global,
     book: &B,
     values: u32,
     i: usize,
-) -> Result<Vec<Literal>, OpenError>
+    literals: &mut Vec<Literal>,
+) -> Result<(), OpenError>
     ensures fit { HoldsExactly (FitClause values (slice_index_or (B.clauses book.now) i [])) result }
-    ensures clause { IfOk result (λ c. c.items ≡ slice_index_or (B.clauses book.now) i []) }
+    ensures row { OnOk result (literals.new.items ≡ literals.old.items ++ slice_index_or (B.clauses book.now) i []) }
 {
     let size = book.length(i);
     if size == 0 || size > MAX_LITERALS {
         return Err(OpenError::Unfit);
     }
-    // its room is taken once: a vector that grows is moved again and again, and so is the next
-    let mut clause = Vec::with_capacity(heap, size)?;
+    let start = literals.len();
     // a `for`: a clause that is not fit is refused before more of it is in memory
     for j in 0..size {
         let literal = Literal::from(book.literal(i, j));
         let value = literal.value();
-        if value >= values as usize || names_value(&clause, value) {
+        if value >= values as usize || names_value(&literals[start..], value) {
             return Err(OpenError::Unfit);
         }
-        clause.push_reserved(literal);
+        literals.push(literal)?;
     }
-    Ok(clause)
+    Ok(())
 }
 
 // The clauses of a book that is fit.
@@ -54,16 +54,24 @@ pub(crate) fn gather<B: ClauseBook>(
     heap: Global,
     book: &B,
     values: u32,
-) -> Result<Vec<Vec<Literal>>, OpenError>
+) -> Result<FlatClauses, OpenError>
     ensures fit { FitsExactly values (B.clauses book.now) result }
-    ensures clauses { IfOk result (λ v. lists_of v.items ≡ B.clauses book.now) }
+    ensures clauses { IfOk result (λ f. flat_of f ≡ B.clauses book.now) }
 {
     let count = book.count();
     if count > MAX_CLAUSES {
         return Err(OpenError::Unfit);
     }
+    let mut literals = Vec::new(heap);
+    let mut starts = Vec::new(heap);
+    starts.push(0)?;
     // beside `books::to_lists`, since each clause is tested as it is read
-    (0..count)
-        .map(|i| read_clause(heap, book, values, i))
-        .try_collect(heap)
+    for i in 0..count {
+        read_clause(book, values, i, &mut literals)?;
+        starts.push(literals.len())?;
+    }
+    // a session keeps them as long as it lives, so the room that is left over goes back
+    literals.shrink_to_fit();
+    starts.shrink_to_fit();
+    Ok(FlatClauses { literals, starts })
 }

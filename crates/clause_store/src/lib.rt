@@ -1,8 +1,10 @@
-// Clause stores: a list of clauses, with an index from each literal to the clauses that hold it.
+// Clause stores: a list of clauses in one row of literals, with an index from each literal to the clauses that hold it.
 #![tactic(auto)]
 
 mod error;
+mod flat;
 mod gather;
+mod holders;
 mod index;
 mod store;
 

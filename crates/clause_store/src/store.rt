@@ -1,9 +1,10 @@
 ghost use Rattle.std.specs.Prelude.{◌≡◌, ◌*◌, vec_len};
 ghost use Rattle.theory.specs.Literals.{Within};
-ghost use Rattle.books.specs.Lists.{lists_of};
+ghost use Rattle.clause_store.specs.Storage.{flat_of, held_of};
 ghost use Rattle.clause_store.specs.Index.{NoneBare, Indexes};
 
-use literals::Literal;
+use crate::flat::FlatClauses;
+use crate::holders::Holders;
 
 mod opening;
 mod reads;
@@ -12,10 +13,10 @@ mod reads;
 #[derive(Drop)]
 pub struct ClauseStore {
     values: u32,
-    clauses: Vec<Vec<Literal>>,
-    holders: Vec<Vec<usize>>,
-    ghost within: { Within values (lists_of clauses.items) },
-    ghost filled: { NoneBare (lists_of clauses.items) },
-    ghost wide: { vec_len holders ≡ 2 * values },
-    ghost indexed: { Indexes (lists_of clauses.items) (lists_of holders.items) },
+    clauses: FlatClauses,
+    holders: Holders,
+    ghost within: { Within values (flat_of clauses) },
+    ghost filled: { NoneBare (flat_of clauses) },
+    ghost wide: { vec_len holders.ends ≡ 2 * values },
+    ghost indexed: { Indexes (flat_of clauses) (held_of holders) },
 }

@@ -3,6 +3,8 @@ ghost use Rattle.theory.specs.Lists.{has};
 ghost use Rattle.clause_store.specs.Contents.{clauses_of, clause_of, holding_of};
 
 use super::ClauseStore;
+use crate::flat::FlatClauses;
+use crate::holders::Holders;
 use literals::Literal;
 use std::alloc::Global;
 
@@ -14,8 +16,8 @@ impl ClauseStore {
     {
         ClauseStore {
             values: 0,
-            clauses: Vec::new(heap),
-            holders: Vec::new(heap),
+            clauses: FlatClauses::empty(heap),
+            holders: Holders::empty(heap),
         }
     }
 
@@ -30,7 +32,7 @@ impl ClauseStore {
     pub fn count(&self) -> usize
         ensures { result ≡ length (clauses_of self.now) }
     {
-        self.clauses.len()
+        self.clauses.count()
     }
 
     // The literals of clause i.
@@ -38,7 +40,7 @@ impl ClauseStore {
         requires { i < length (clauses_of self.now) }
         ensures { result.now ≡ clause_of self.now i }
     {
-        &self.clauses[i]
+        self.clauses.clause(i)
     }
 
     // The clauses that hold a literal, by their numbers.
@@ -46,8 +48,6 @@ impl ClauseStore {
         ensures answer { result.now ≡ holding_of self.now literal }
         ensures exact { (i : ℕ) → has result.now i ≡ has (clause_of self.now i) literal }
     {
-        self.holders
-            .get(literal.index())
-            .map_or(&[], |holders| holders.as_slice())
+        self.holders.of(literal)
     }
 }
